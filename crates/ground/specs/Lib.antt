@@ -1,0 +1,4 @@
+pub mod Choice
+pub mod Paper
+pub mod Words
+pub mod Bits
