@@ -1,0 +1,4 @@
+pub mod Meaning
+pub mod Entries
+pub mod Promise
+pub mod OneOutcome

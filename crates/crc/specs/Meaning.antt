@@ -1,0 +1,33 @@
+-- The checksum of document 01, "Packets and messages" (000, 2.4.1): width 16, polynomial 0x1021, initial 0xffff, no
+-- reflection, no final xor. Bit by bit.
+-- Assumes nothing.
+use mathlib.Core.List.{List, [], _∷_}
+use Prim.Native.Nat.{ℕ, zero, suc, _*_, _/_, _%_, _^_}
+use lib.Bits.{bitXor}
+
+-- "polynomial 0x1021": what is added where the bit that falls out is 1
+abbrev pub polynomial : ℕ → ℕ
+polynomial zero = 0
+polynomial (suc b) = 0x1021
+
+-- one bit, "width 16", "no reflection": the register moves left, and the bit that falls out says what is added
+unfoldable pub shift : ℕ → ℕ
+shift r = bitXor (r * 2 % 2 ^ 16) (polynomial (r / 2 ^ 15))
+
+-- so many bits
+abbrev pub shifts : ℕ → ℕ → ℕ
+shifts zero r = r
+shifts (suc k) r = shifts k (shift r)
+
+-- one byte: it is added to the upper half of the register, and its eight bits go through
+unfoldable pub step : ℕ → ℕ → ℕ
+step r b = shifts 8 (bitXor r (b * 2 ^ 8))
+
+-- the register after every byte
+abbrev pub run : ℕ → List ℕ → ℕ
+run r [] = r
+run r (b ∷ bs) = run (step r b) bs
+
+-- "initial 0xffff, .. no final xor": the checksum of bytes
+unfoldable pub checksumOf : List ℕ → ℕ
+checksumOf bytes = run 0xffff bytes
