@@ -1,0 +1,5 @@
+pub mod Tests
+pub mod Standing
+pub mod Finding
+pub mod Copying
+pub mod Writing

@@ -1,0 +1,91 @@
+-- The buffer as the writer leaves it, step by step, is the packet and what lay past it.
+-- Assumes nothing.
+use mathlib.Core.Path.{_≡_, refl, sym, ap, ap₂, _∙_}
+use mathlib.Core.List.{List, [], _∷_, _++_, append-assoc}
+use Prim.Native.Nat.{ℕ, _+_, _-_, _<_, _≤_}
+use native.Mathlib.Nat.{add-comm}
+use native.Mathlib.Omega.{arith}
+use borrow.Author.Tests.{lt-ltb, le-ltb}
+use borrow.Rule.Slice.PartMut.{putMid, postOf, post-is}
+use lib.ListN.{length, take, drop, length-append, length-drop}
+use lib.Seq.{take-at, drop-at, drop-drop}
+use Rattle.ground.specs.Paper.{accepted, refused}
+use Rattle.ground.specs.Words.{bytesOf}
+use Rattle.crc.specs.Meaning.{checksumOf}
+use Rattle.packet.specs.Meaning.{covered, packetOf, writeMeans, writeLeaves}
+use Rattle.packet.specs.Putting.{put, headOf, put-next}
+
+-- more data than a packet takes
+pub record TooMuch (buffer : List ℕ) (apid : ℕ) (payload : List ℕ) : Type 0 where
+  pub answer : refused 2 ≡ writeMeans buffer payload
+  pub memory : buffer ≡ writeLeaves buffer apid payload
+
+pub too-much : (buffer : List ℕ) (apid : ℕ) (payload : List ℕ) → 8187 < length payload → TooMuch buffer apid payload
+unfolding writeMeans writeLeaves
+too-much buffer apid payload h =
+    record { answer = rw (lt-ltb 8187 (length payload) h); memory = rw (lt-ltb 8187 (length payload) h) }
+
+-- a buffer that is too short
+pub record TooShort (buffer : List ℕ) (apid : ℕ) (payload : List ℕ) : Type 0 where
+  pub answer : refused 3 ≡ writeMeans buffer payload
+  pub memory : buffer ≡ writeLeaves buffer apid payload
+
+pub too-short : (buffer : List ℕ) (apid : ℕ) (payload : List ℕ) → length payload ≤ 8187 → length buffer < length payload + 10
+    → TooShort buffer apid payload
+unfolding writeMeans writeLeaves
+too-short buffer apid payload g h =
+    record {
+      answer = rw (le-ltb 8187 (length payload) g, lt-ltb (length buffer) (length payload + 10) h);
+      memory = rw (le-ltb 8187 (length payload) g, lt-ltb (length buffer) (length payload + 10) h);
+    }
+
+-- the data in the middle, after the header
+module _ (buffer : List ℕ) (apid : ℕ) (payload : List ℕ) where
+  covered-length : length (covered apid payload) ≡ length payload + 8
+  covered-length = omega arith
+
+  filled : {head part : List ℕ} → head ≡ headOf (length payload + 4) apid ++ drop 8 buffer → part ≡ payload
+      → putMid 8 (length payload + 8 - 8) head part ≡ covered apid payload ++ drop (length payload + 8) buffer
+  filled {head} {part} p q =
+      let h = headOf (length payload + 4) apid in
+      let n = length payload in
+      ap₂ (λ (x y : List ℕ). putMid 8 (n + 8 - 8) x y) p q
+      ∙ ap₂ (λ (x y : List ℕ). x ++ (payload ++ y)) (take-at h (drop 8 buffer) 8 refl)
+      (post-is 8 (n + 8) (h ++ drop 8 buffer) (omega arith)
+      ∙ ap (λ (k : ℕ). drop k (h ++ drop 8 buffer)) (add-comm n 8)
+      ∙ sym (drop-drop n 8 (h ++ drop 8 buffer))
+      ∙ ap (drop n) (drop-at h (drop 8 buffer) 8 refl)
+      ∙ drop-drop n 8 buffer
+      ∙ ap (λ (k : ℕ). drop k buffer) (add-comm 8 n))
+      ∙ sym (append-assoc h payload (drop (n + 8) buffer))
+
+  -- what the checksum is formed over
+  pub summed : {head part : List ℕ} → head ≡ headOf (length payload + 4) apid ++ drop 8 buffer → part ≡ payload
+      → take (length payload + 8) (putMid 8 (length payload + 8 - 8) head part) ≡ covered apid payload
+  summed p q =
+      ap (take (length payload + 8)) (filled p q)
+      ∙ take-at (covered apid payload) (drop (length payload + 8) buffer) (length payload + 8) covered-length
+
+  -- the whole packet, and what lay past it
+  pub record Done (after : List ℕ) : Type 0 where
+    pub answer : accepted (length payload + 10) ≡ writeMeans buffer payload
+    pub memory : after ≡ writeLeaves buffer apid payload
+
+  pub done : {head part after : List ℕ} {sum : ℕ} → length payload ≤ 8187 → length payload + 10 ≤ length buffer
+      → head ≡ headOf (length payload + 4) apid ++ drop 8 buffer → part ≡ payload
+      → sum ≡ checksumOf (take (length payload + 8) (putMid 8 (length payload + 8 - 8) head part))
+      → after ≡ put (putMid 8 (length payload + 8 - 8) head part) (length payload + 8) (bytesOf 2 sum)
+      → Done after
+  unfolding writeMeans writeLeaves packetOf
+  done {head} {part} {after} {sum} g h p q s t =
+      let n = length payload in
+      let past : n + 8 + 2 ≡ n + 10 = omega arith in
+      let whole : after ≡ packetOf apid payload ++ drop (n + 10) buffer =
+      t
+      ∙ ap₂ (λ (x : List ℕ) (y : ℕ). put x (n + 8) (bytesOf 2 y)) (filled p q) (s ∙ ap checksumOf (summed p q))
+      ∙ put-next (covered apid payload) buffer (bytesOf 2 (checksumOf (covered apid payload))) (n + 8) covered-length
+      ∙ ap (λ (k : ℕ). packetOf apid payload ++ drop k buffer) past in
+      record {
+        answer = rw (le-ltb 8187 n g, le-ltb (length buffer) (n + 10) h);
+        memory = rw (le-ltb 8187 n g, le-ltb (length buffer) (n + 10) h) whole;
+      }

@@ -1,0 +1,54 @@
+-- `packet::find` meets its contract. The loop's invariant: none of the places passed held a packet.
+-- Assumes nothing.
+use Prim.Native.Nat.{_-_}
+use mathlib.Core.Path.{sym, _∙_}
+use borrow.Author.Needs.{needs}
+use lib.ListN.{length}
+use Rattle.packet.proofs.Finding.{Passed, passed-none, passed-more, long, here, nowhere}
+use Rattle.packet.proofs.find.Statement.{statement}
+use Rattle.packet.proofs.find.Tie as tie
+
+abbrev Inv-loop : tie.InvT-loop
+Inv-loop capture place₀ place = Passed capture place
+
+abbrev μ-loop : tie.MeasureT-loop
+μ-loop capture place₀ place = length capture - place
+
+returns : tie.Need-returns Inv-loop μ-loop
+returns c = record { answer = long (c .before .before .args .capture .now) (search needs) }
+
+loop-holds : tie.Need-loop-holds Inv-loop μ-loop
+loop-holds c = passed-none (c .before .before .args .capture .now)
+
+stands-at-requires : tie.Need-stands-at-requires Inv-loop μ-loop
+stands-at-requires c κs = search needs
+
+returns-2 : tie.Need-returns-2 Inv-loop μ-loop
+returns-2 c = record { answer = here (search needs) (c .before .before .before .loop .inv) (search needs) (sym (c .before .stands-at .ensures) ∙ c .if2 .taken) }
+
+add-place : tie.Need-add-place Inv-loop μ-loop
+add-place c = search needs
+
+loop-less : tie.Need-loop-less Inv-loop μ-loop
+loop-less c = search needs
+
+loop-again : tie.Need-loop-again Inv-loop μ-loop
+loop-again c = passed-more (c .before .before .before .loop .inv) (search needs) (sym (c .before .stands-at .ensures) ∙ c .if2 .left)
+
+returns-3 : tie.Need-returns-3 Inv-loop μ-loop
+returns-3 c = record { answer = nowhere (search needs) (c .before .loop .inv) (search needs) }
+
+pub find-spec : {M : Type 1} → statement M
+find-spec =
+    tie.close
+    (tie.spec
+    Inv-loop
+    μ-loop
+    returns
+    loop-holds
+    stands-at-requires
+    returns-2
+    add-place
+    loop-less
+    loop-again
+    returns-3)

@@ -1,0 +1,37 @@
+-- `packet::put_header` meets its contract: four words, one after the other.
+-- Assumes nothing.
+use borrow.Author.Needs.{needs}
+use Rattle.packet.specs.Putting.{head-put}
+use Rattle.packet.proofs.parts.put_header.Statement.{statement}
+use Rattle.packet.proofs.parts.put_header.Tie as tie
+
+put-word-requires : tie.Need-put-word-requires
+put-word-requires c κs = search needs
+
+put-word-requires-2 : tie.Need-put-word-requires-2
+put-word-requires-2 c κs = search needs
+
+put-word-requires-3 : tie.Need-put-word-requires-3
+put-word-requires-3 c κs = search needs
+
+put-word-requires-4 : tie.Need-put-word-requires-4
+put-word-requires-4 c κs = search needs
+
+same-length : tie.Need-same-length
+same-length c = search needs
+
+returns : tie.Need-returns
+returns c =
+    let a = c .before .before .before .before .before .before .before .before .before .before .before .before .before .before .before .before .before .args in
+    head-put (a .buffer .now) (a .word) (a .apid) (c .before .before .before .before .before .before .before .before .before .before .before .before .before .before .put-word .ensures) (c .before .before .before .before .before .before .before .before .before .before .put-word2 .ensures) (c .before .before .before .before .before .before .put-word3 .ensures) (c .before .before .put-word4 .ensures)
+
+pub put-header-spec : {M : Type 1} → statement M
+put-header-spec =
+    tie.close
+    (tie.spec
+    put-word-requires
+    put-word-requires-2
+    put-word-requires-3
+    put-word-requires-4
+    same-length
+    returns)

@@ -1,0 +1,73 @@
+-- `packet::stands_at` meets its contract: the tests one after the other.
+-- Assumes nothing.
+use Prim.Native.Nat.{_+_, _-_}
+use mathlib.Core.Path.{sym, _∙_}
+use native.Mathlib.Omega.{arith}
+use borrow.Author.Needs.{needs}
+use borrow.Author.Tests.{leb-true}
+use lib.ListN.{length}
+use Rattle.packet.proofs.Tests.{refused, passed}
+use Rattle.packet.proofs.Standing.{too-near-the-end, not-marked, too-small, too-large, not-whole, up-to-checksum, whole}
+use Rattle.packet.proofs.parts.stands_at.Statement.{statement}
+use Rattle.packet.proofs.parts.stands_at.Tie as tie
+
+lies-in-requires : tie.Need-lies-in-requires
+lies-in-requires c κs = search needs
+
+returns : tie.Need-returns
+returns c = too-near-the-end (c .before .before .before .args .capture .now) (c .before .before .before .args .place) (refused (c .before .lies-in .ensures) (c .if1 .taken))
+
+marked-at-requires : tie.Need-marked-at-requires
+marked-at-requires c κs = omega (arith, leb-true (c .before .before .before .args .place + 10) (length (c .before .before .before .args .capture .now)) (passed (c .before .lies-in .ensures) (c .if1 .left)))
+
+returns-2 : tie.Need-returns-2
+returns-2 c = not-marked (c .before .before .before .before .before .args .capture .now) (c .before .before .before .before .before .args .place) (passed (c .before .before .before .lies-in .ensures) (c .before .before .if1 .left)) (refused (c .before .marked-at .ensures) (c .if2 .taken))
+
+add-word-at : tie.Need-add-word-at
+add-word-at c = omega (arith, leb-true (c .before .before .before .before .before .args .place + 10) (length (c .before .before .before .before .before .args .capture .now)) (passed (c .before .before .before .lies-in .ensures) (c .before .before .if1 .left)))
+
+word-at-requires : tie.Need-word-at-requires
+word-at-requires c κs = omega (arith, leb-true (c .before .before .before .before .before .args .place + 10) (length (c .before .before .before .before .before .args .capture .now)) (passed (c .before .before .before .lies-in .ensures) (c .before .before .if1 .left)))
+
+cast-word : tie.Need-cast-word
+cast-word c = search needs
+
+returns-3 : tie.Need-returns-3
+returns-3 c = too-small (c .before .before .before .before .before .before .before .args .capture .now) (c .before .before .before .before .before .before .before .args .place) (c .before .word-at .result) (c .before .word-at .ensures .0) (passed (c .before .before .before .before .before .lies-in .ensures) (c .before .before .before .before .if1 .left)) (passed (c .before .before .before .marked-at .ensures) (c .before .before .if2 .left)) (search needs)
+
+returns-4 : tie.Need-returns-4
+returns-4 c = too-large (c .before .before .before .before .before .before .before .before .args .capture .now) (c .before .before .before .before .before .before .before .before .args .place) (c .before .before .word-at .result) (c .before .before .word-at .ensures .0) (passed (c .before .before .before .before .before .before .lies-in .ensures) (c .before .before .before .before .before .if1 .left)) (passed (c .before .before .before .before .marked-at .ensures) (c .before .before .before .if2 .left)) (search needs) (search needs)
+
+add-lies-in : tie.Need-add-lies-in
+add-lies-in c = search needs
+
+lies-in-requires-2 : tie.Need-lies-in-requires-2
+lies-in-requires-2 c κs = search needs
+
+returns-5 : tie.Need-returns-5
+returns-5 c = not-whole (c .before .before .before .before .before .before .before .before .before .before .args .capture .now) (c .before .before .before .before .before .before .before .before .before .before .args .place) (c .before .before .before .before .word-at .result) (c .before .before .before .before .word-at .ensures .0) (passed (c .before .before .before .before .before .before .before .before .lies-in .ensures) (c .before .before .before .before .before .before .before .if1 .left)) (passed (c .before .before .before .before .before .before .marked-at .ensures) (c .before .before .before .before .before .if2 .left)) (search needs) (search needs) (refused (c .before .lies-in2 .ensures) (c .if5 .taken))
+
+checked-at-requires : tie.Need-checked-at-requires
+checked-at-requires c κs = whole (c .before .before .before .before .before .before .before .before .before .before .args .capture .now) (c .before .before .before .before .before .before .before .before .before .before .args .place) (c .before .before .before .before .word-at .result) (c .before .before .before .before .word-at .ensures .0) (search needs) (passed (c .before .lies-in2 .ensures) (c .if5 .left))
+
+returns-6 : tie.Need-returns-6
+returns-6 c = c .checked-at .ensures ∙ up-to-checksum (c .before .before .before .before .before .before .before .before .before .before .before .args .capture .now) (c .before .before .before .before .before .before .before .before .before .before .before .args .place) (c .before .before .before .before .before .word-at .result) (c .before .before .before .before .before .word-at .ensures .0) (passed (c .before .before .before .before .before .before .before .before .before .lies-in .ensures) (c .before .before .before .before .before .before .before .before .if1 .left)) (passed (c .before .before .before .before .before .before .before .marked-at .ensures) (c .before .before .before .before .before .before .if2 .left)) (search needs) (search needs) (passed (c .before .before .lies-in2 .ensures) (c .before .if5 .left))
+
+pub stands-at-spec : {M : Type 1} → statement M
+stands-at-spec =
+    tie.close
+    (tie.spec
+    lies-in-requires
+    returns
+    marked-at-requires
+    returns-2
+    add-word-at
+    word-at-requires
+    cast-word
+    returns-3
+    returns-4
+    add-lies-in
+    lies-in-requires-2
+    returns-5
+    checked-at-requires
+    returns-6)

@@ -1,0 +1,84 @@
+-- `packet::payload` meets its contract: the part lies in the caller's own memory.
+-- Assumes nothing.
+use Prim.Native.Nat.{ℕ, _+_, _-_}
+use native.Mathlib.Nat.{add-zero, add-comm}
+use mathlib.Core.Path.{_≡_, refl, sym, ap, _∙_}
+use native.Mathlib.Omega.{arith}
+use borrow.Author.Needs.{needs}
+use lib.ListN.{take, drop}
+use Rattle.packet.proofs.Finding.{Empty, empty-long, empty-none, Data, data-here}
+use Rattle.packet.proofs.payload.Statement.{statement}
+use Rattle.packet.proofs.payload.Tie as tie
+
+slice-aggregate-result : tie.Need-slice-aggregate-result
+slice-aggregate-result c = search needs
+
+returns : tie.Need-returns
+returns c =
+    let x = c .before .before .before .args .capture in
+    let e = empty-long (c .before .before .before .args .capture .now) (c .before .before .before .args .place) (search needs) in
+    record { bytes = e .bytes; block = refl; place = sym (add-zero (x .ptr .1)) ∙ ap (λ (n : ℕ). x .ptr .1 + n) (e .start) }
+
+stands-at-requires : tie.Need-stands-at-requires
+stands-at-requires c κs = search needs
+
+data-length-requires : tie.Need-data-length-requires
+data-length-requires c κs = sym (c .before .stands-at .ensures) ∙ c .if2 .taken
+
+cast-length : tie.Need-cast-length
+cast-length c = search needs
+
+add-start : tie.Need-add-start
+add-start c = search needs
+
+add-result : tie.Need-add-result
+add-result c = search needs
+
+sub-result : tie.Need-sub-result
+sub-result c = search needs
+
+part-result-start : tie.Need-part-result-start
+part-result-start c = search needs
+
+part-result-end : tie.Need-part-result-end
+part-result-end c = search needs
+
+slice-aggregate-result-2 : tie.Need-slice-aggregate-result-2
+slice-aggregate-result-2 c = search needs
+
+returns-2 : tie.Need-returns-2
+returns-2 c =
+    let x = c .before .before .before .before .before .before .args .capture in
+    let at = c .before .before .before .before .before .before .args .place in
+    let d = data-here (x .now) at (search needs) (sym (c .before .before .before .stands-at .ensures) ∙ c .before .before .if2 .taken) in
+    let n = c .before .data-length .result in
+    let size : at + 8 + n - (at + 8) ≡ n = omega arith in
+    record {
+      bytes = ap (λ (k : ℕ). take k (drop (at + 8) (x .now))) (size ∙ c .before .data-length .ensures .0) ∙ d .bytes;
+      block = refl;
+      place = add-comm (at + 8) (x .ptr .1) ∙ ap (λ (k : ℕ). x .ptr .1 + k) (d .start);
+    }
+
+returns-3 : tie.Need-returns-3
+returns-3 c =
+    let x = c .before .before .before .before .before .args .capture in
+    let e = empty-none (c .before .before .before .before .before .args .capture .now) (c .before .before .before .before .before .args .place) (search needs) (sym (c .before .before .stands-at .ensures) ∙ c .before .if2 .left) in
+    record { bytes = e .bytes; block = refl; place = sym (add-zero (x .ptr .1)) ∙ ap (λ (n : ℕ). x .ptr .1 + n) (e .start) }
+
+pub payload-spec : {M : Type 1} → statement M
+payload-spec =
+    tie.close
+    (tie.spec
+    slice-aggregate-result
+    returns
+    stands-at-requires
+    data-length-requires
+    cast-length
+    add-start
+    add-result
+    sub-result
+    part-result-start
+    part-result-end
+    slice-aggregate-result-2
+    returns-2
+    returns-3)

@@ -1,0 +1,62 @@
+-- The paper of each answer: document 01's number and values for each case, and the way back.
+-- Assumes nothing.
+use mathlib.Core.Path.{_≡_, refl}
+use Prim.Native.Nat.{ℕ}
+use lib.Dec.{eqb}
+use Rattle.ground.specs.Choice.{pick}
+use Rattle.ground.specs.Paper.{Paper, accepted, refused, refusedWith}
+use Rattle.packet.specs.Meaning.{FoundValues, HeaderValues}
+use Rattle.packet.specs.declared.Found.{Found}
+use Rattle.packet.specs.declared.Found.the-variants as F
+use Rattle.packet.specs.declared.Headed.{Headed}
+use Rattle.packet.specs.declared.Headed.the-variants as H
+use Rattle.packet.specs.declared.Written.{Written}
+use Rattle.packet.specs.declared.Written.the-variants as W
+
+-- finding: a place and what was skipped; 20 with what was skipped; 1
+abbrev pub foundPaper : Found → Paper FoundValues
+foundPaper (F.At p s) = accepted (record { place = p; skipped = s })
+foundPaper (F.Nothing s) = refusedWith 20 s
+foundPaper F.TooLong = refused 1
+
+abbrev pub foundBack : Paper FoundValues → Found
+foundBack (accepted v) = F.At (v .place) (v .skipped)
+foundBack (refused n) = F.TooLong
+foundBack (refusedWith n s) = F.Nothing s
+
+pub found-home : (a : Found) → foundBack (foundPaper a) ≡ a
+found-home (F.At p s) = refl
+found-home (F.Nothing s) = refl
+found-home F.TooLong = refl
+
+-- a header: APID and n; 20; 1
+abbrev pub headedPaper : Headed → Paper HeaderValues
+headedPaper (H.Packet a n) = accepted (record { apid = a; length = n })
+headedPaper H.NoPacket = refused 20
+headedPaper H.TooLong = refused 1
+
+abbrev pub headedBack : Paper HeaderValues → Headed
+headedBack (accepted v) = H.Packet (v .apid) (v .length)
+headedBack (refused n) = pick (eqb n 20) H.NoPacket H.TooLong
+headedBack (refusedWith n x) = H.TooLong
+
+pub headed-home : (a : Headed) → headedBack (headedPaper a) ≡ a
+headed-home (H.Packet a n) = refl
+headed-home H.NoPacket = refl
+headed-home H.TooLong = refl
+
+-- writing: the bytes written; 2; 3
+abbrev pub writtenPaper : Written → Paper ℕ
+writtenPaper (W.Bytes n) = accepted n
+writtenPaper W.TooMuchData = refused 2
+writtenPaper W.BufferTooShort = refused 3
+
+abbrev pub writtenBack : Paper ℕ → Written
+writtenBack (accepted n) = W.Bytes n
+writtenBack (refused n) = pick (eqb n 2) W.TooMuchData W.BufferTooShort
+writtenBack (refusedWith n x) = W.BufferTooShort
+
+pub written-home : (a : Written) → writtenBack (writtenPaper a) ≡ a
+written-home (W.Bytes n) = refl
+written-home W.TooMuchData = refl
+written-home W.BufferTooShort = refl

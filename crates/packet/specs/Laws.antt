@@ -1,0 +1,85 @@
+-- What holds where a packet stands, and how finding goes on: what callers cite.
+-- Assumes nothing.
+use mathlib.Core.Path.{_≡_, refl, sym, ap, ap₂, _∙_, subst}
+use mathlib.Core.Bool.{Bool, true, false, _&&_}
+use mathlib.Core.List.{List}
+use Prim.Native.Nat.{ℕ, suc, _+_, _-_, _<_, _≤_}
+use native.Mathlib.Numerals.{add-one}
+use native.Mathlib.Omega.{arith}
+use borrow.Author.Tests.{leb-true, ltb-true, eqb-true, le-leb, lt-ltb, eq-eqb}
+use lib.Dec.{leb, ltb, eqb}
+use lib.ListN.{length, take, drop}
+use Rattle.ground.specs.Choice.{pick}
+use Rattle.ground.specs.Paper.{Paper, accepted, refused, refusedWith}
+use Rattle.ground.specs.Words.{wordAt}
+use Rattle.crc.specs.Meaning.{checksumOf}
+use Rattle.packet.specs.Meaning.{lies, marked, sized, dataLength, checked, stands, failedBefore, findFrom, FoundValues}
+
+-- mark, length and checksum agree at a place
+pub record Standing (l : List ℕ) (at : ℕ) : Type 0 where
+  pub room : at + 10 ≤ length l
+  pub mark : marked l at ≡ true
+  pub least : 4 ≤ wordAt l (at + 4)
+  pub most : wordAt l (at + 4) < 8192
+  pub whole : at + (dataLength l at + 10) ≤ length l
+  pub sum : checksumOf (take (dataLength l at + 8) (drop at l)) ≡ wordAt l (at + (dataLength l at + 8))
+
+-- both tests of two that hold together
+both : {a b : Bool} → a && b ≡ true → (a ≡ true) × (b ≡ true)
+both {a = true} {b} e = (refl, e)
+both {a = false} {b} e = (e, cc)
+
+-- where the test says that a packet stands, all of it holds
+pub standing : (l : List ℕ) (at : ℕ) → stands l at ≡ true → Standing l at
+unfolding stands
+standing l at e =
+    let inside = both e in
+    let marks = both (inside .1) in
+    let sizes = both (marks .1) in
+    let word = both (sizes .0) in
+    let ends = both (sizes .1) in
+    record {
+      room = leb-true _ _ (inside .0);
+      mark = marks .0;
+      least = leb-true _ _ (word .0);
+      most = ltb-true _ _ (word .1);
+      whole = leb-true _ _ (ends .0);
+      sum = eqb-true _ _ (ends .1);
+    }
+
+-- where all of it holds, the test says that a packet stands
+pub stands-so : (l : List ℕ) (at : ℕ) → Standing l at → stands l at ≡ true
+unfolding stands
+stands-so l at s =
+    rw (
+      le-leb (at + 10) (length l) (s .room),
+      s .mark,
+      le-leb 4 (wordAt l (at + 4)) (s .least),
+      lt-ltb (wordAt l (at + 4)) 8192 (s .most),
+      le-leb (at + (dataLength l at + 10)) (length l) (s .whole),
+      eq-eqb (checksumOf (take (dataLength l at + 8) (drop at l))) (wordAt l (at + (dataLength l at + 8))) (s .sum),
+    )
+
+-- a place at which no packet stands is one failed place more
+pub failed-more : (l : List ℕ) (at : ℕ) → stands l at ≡ false → failedBefore l at ≡ at → failedBefore l (at + 1) ≡ at + 1
+failed-more l at e h = rw (add-one at, e, h) (add-one at)
+
+-- finding goes on where no packet stands
+pub find-on : (l : List ℕ) (at : ℕ) → at < length l → stands l at ≡ false
+    → findFrom l at (length l - at) ≡ findFrom l (at + 1) (length l - (at + 1))
+find-on l at h e =
+    let left : length l - at ≡ suc (length l - (at + 1)) = omega arith in
+    rw (left, e, add-one at)
+
+-- finding ends at the first packet
+pub find-here : (l : List ℕ) (at : ℕ) → at < length l → stands l at ≡ true
+    → findFrom l at (length l - at) ≡ accepted (record { place = at; skipped = failedBefore l at })
+find-here l at h e =
+    let left : length l - at ≡ suc (length l - (at + 1)) = omega arith in
+    rw (left, e)
+
+-- finding ends at the capture's end
+pub find-none : (l : List ℕ) (at : ℕ) → length l ≤ at → findFrom l at (length l - at) ≡ refusedWith 20 (failedBefore l at)
+find-none l at h =
+    let left : length l - at ≡ 0 = omega arith in
+    rw left

@@ -1,0 +1,123 @@
+// The parts of a packet: its tests one by one, and its fields put into a buffer.
+ghost use mathlib.Core.Path.{_≡_};
+ghost use mathlib.Core.Bool.{true};
+ghost use mathlib.Core.List.{_++_};
+ghost use Prim.Native.Nat.{_+_, _≤_, _<_};
+ghost use lib.ListN.{length, take, drop, getD};
+ghost use Rattle.ground.specs.Words.{bytesOf, wordAt};
+ghost use Rattle.packet.specs.Putting.{put, headOf};
+ghost use Rattle.packet.specs.Meaning.{lies, marked, dataLength, checked, stands};
+
+// Whether a packet stands at a place.
+pub(crate) fn stands_at(capture: &[u8], place: usize) -> bool
+    ensures { λ r. ⌜ r ≡ stands (now (capture .entry)) place ⌝ }
+{
+    if !lies_in(capture, place, 10) {
+        return false;
+    }
+    if !marked_at(capture, place) {
+        return false;
+    }
+    let word = word_at(capture, place + 4) as usize;
+    if word < 4 {
+        return false;
+    }
+    if 8192 <= word {
+        return false;
+    }
+    if !lies_in(capture, place, word + 6) {
+        return false;
+    }
+    checked_at(capture, place, word - 4)
+}
+
+// The number of data bytes of the packet that stands at a place.
+pub(crate) fn data_length(capture: &[u8], place: usize) -> u16
+    requires { ⌜ stands (now capture) place ≡ true ⌝ }
+    ensures { λ r. ⌜ (r ≡ dataLength (now (capture .entry)) place) × (place + (r + 10) ≤ length (now (capture .entry))) ⌝ }
+{
+    word_at(capture, place + 4) - 4
+}
+
+// Whether so many bytes from a place on lie in the capture.
+fn lies_in(capture: &[u8], place: usize, size: usize) -> bool
+    ensures { λ r. ⌜ r ≡ lies (now (capture .entry)) place size ⌝ }
+{
+    if capture.len() < place {
+        return false;
+    }
+    size <= capture.len() - place
+}
+
+// Whether the mark stands at a place.
+fn marked_at(capture: &[u8], place: usize) -> bool
+    requires { ⌜ place + 4 ≤ length (now capture) ⌝ }
+    ensures { λ r. ⌜ r ≡ marked (now (capture .entry)) place ⌝ }
+{
+    if capture[place] != 0xBE {
+        return false;
+    }
+    if capture[place + 1] != 0xBA {
+        return false;
+    }
+    if capture[place + 2] != 0xCA {
+        return false;
+    }
+    capture[place + 3] == 0xFE
+}
+
+// Whether the checksum after n data bytes is that of all before it.
+fn checked_at(capture: &[u8], place: usize, n: usize) -> bool
+    requires { ⌜ place + (n + 10) ≤ length (now capture) ⌝ }
+    ensures { λ r. ⌜ r ≡ checked (now (capture .entry)) place n ⌝ }
+{
+    let end = place + (n + 8);
+    crc::checksum(&capture[place..end]) == word_at(capture, end)
+}
+
+// The 16-bit word at a place.
+pub(crate) fn word_at(bytes: &[u8], at: usize) -> u16
+    requires { ⌜ at + 2 ≤ length (now bytes) ⌝ }
+    ensures { λ r. ⌜ (r ≡ wordAt (now (bytes .entry)) at) × (r < 65536) ⌝ }
+{
+    wide(bytes[at]) * 256 + wide(bytes[at + 1])
+}
+
+// A byte as a word.
+fn wide(x: u8) -> u16
+    ensures { λ r. ⌜ (r ≡ x) × (r < 256) ⌝ }
+{
+    x as u16
+}
+
+// Puts a packet's header at the front: the mark, the length word and the APID.
+pub(crate) fn put_header(buffer: &mut [u8], word: u16, apid: u16)
+    requires { ⌜ 8 ≤ length (now buffer) ⌝ }
+    ensures { λ _. ⌜ now (buffer .exit) ≡ headOf word apid ++ drop 8 (now (buffer .entry)) ⌝ }
+{
+    put_word(buffer, 0, 0xBEBA);
+    put_word(buffer, 2, 0xCAFE);
+    put_word(buffer, 4, word);
+    put_word(buffer, 6, apid);
+}
+
+// Puts a 16-bit word at a place.
+pub(crate) fn put_word(buffer: &mut [u8], at: usize, word: u16)
+    requires { ⌜ at + 2 ≤ length (now buffer) ⌝ }
+    ensures { λ _. ⌜ now (buffer .exit) ≡ put (now (buffer .entry)) at (bytesOf 2 word) ⌝ }
+{
+    buffer[at] = (word / 256) as u8;
+    buffer[at + 1] = (word % 256) as u8;
+}
+
+// Copies the data over a part of the buffer that is as long.
+pub(crate) fn copied(part: &mut [u8], payload: &[u8])
+    requires { ⌜ length (now part) ≡ length (now payload) ⌝ }
+    ensures { λ _. ⌜ now (part .exit) ≡ now (payload .entry) ⌝ }
+{
+    let mut i = 0;
+    while i < payload.len() {
+        part[i] = payload[i];
+        i += 1;
+    }
+}
