@@ -5,10 +5,10 @@ use mathlib.Core.Path.{_≡_, refl, sym, ap, ap₂, _∙_, subst}
 use Prim.Native.Nat.{ℕ, zero, suc, _+_, _*_, _/_, _%_, _^_, _<_, _≤_}
 use native.Mathlib.Nat.{not-suc-le-zero, le-of-suc-le-suc, mod-eq-of-lt, mul-assoc, mul-comm, pow-suc, div-eq-of-lt, mul-one, add-zero, mod-lt, le-mul-of-pos-right}
 use native.Mathlib.Omega.{arith}
-use lib.Dec.{lit<}
 use lib.Pow.{shr-lt, pow-pos, split}
 use lib.Bits.{bitXor, xor-shr, xor-mod, xor-block, xor-lt, xor-zero-r, xor-zero-l, xor-self, xor-shifted}
 use Rattle.crc.specs.Meaning.{polynomial, shift, shifts, step}
+use Rattle.crc.specs.Laws.{shift-lt}
 use Rattle.crc.proofs.Xor.{xor-middle}
 
 -- the bits that fall out of two registers add what the bit that falls out of both adds
@@ -38,19 +38,6 @@ shift-xor a b ha hb =
     ap₂ bitXor (left-xor a b)
     (ap polynomial (xor-shr a b 15) ∙ polynomial-xor (a / 2 ^ 15) (b / 2 ^ 15) (shr-lt 1 15 ha) (shr-lt 1 15 hb))
     ∙ xor-middle (a * 2 % 2 ^ 16) (b * 2 % 2 ^ 16) (polynomial (a / 2 ^ 15)) (polynomial (b / 2 ^ 15))
-
--- a register stays within 16 bits
-polynomial-lt : (b : ℕ) → polynomial b < 2 ^ 16
-polynomial-lt zero = lit< tt
-polynomial-lt (suc b) = lit< tt
-
-pub shift-lt : (a : ℕ) → shift a < 2 ^ 16
-unfolding shift
-shift-lt a = xor-lt 16 (a * 2 % 2 ^ 16) (polynomial (a / 2 ^ 15)) (mod-lt (a * 2) (pow-pos 16)) (polynomial-lt (a / 2 ^ 15))
-
-pub shifts-lt : (k a : ℕ) → a < 2 ^ 16 → shifts k a < 2 ^ 16
-shifts-lt zero a h = h
-shifts-lt (suc k) a h = shifts-lt k (shift a) (shift-lt a)
 
 -- so many bits go through both registers
 pub shifts-xor : (k a b : ℕ) → a < 2 ^ 16 → b < 2 ^ 16 → shifts k (bitXor a b) ≡ bitXor (shifts k a) (shifts k b)

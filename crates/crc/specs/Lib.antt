@@ -1,4 +1,5 @@
 pub mod Meaning
+pub mod Laws
 pub mod Entries
 pub mod Promise
 pub mod OneOutcome

@@ -4,3 +4,5 @@ pub mod Answers
 pub mod Laws
 pub mod Promise
 pub mod OneOutcome
+pub mod ReadBack
+pub mod Agreement

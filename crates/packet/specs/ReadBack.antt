@@ -1,0 +1,98 @@
+-- "those bytes read back as the packet": whatever follows in the buffer.
+-- Assumes nothing.
+use mathlib.Core.Path.{_≡_, refl, sym, ap, ap₂, _∙_, subst}
+use mathlib.Core.Bool.{true}
+use mathlib.Core.List.{List, [], _∷_, _++_, append-assoc}
+use Prim.Native.Nat.{ℕ, _+_, _-_, _^_, _<_, _≤_}
+use native.Mathlib.Nat.{zero-add, sub-zero}
+use native.Mathlib.Omega.{arith}
+use borrow.Author.Tests.{le-ltb}
+use lib.ListN.{length, take, drop, length-append}
+use lib.Seq.{take-at, drop-at}
+use Rattle.ground.specs.Paper.{accepted}
+use Rattle.ground.specs.Words.{number, bytesOf, wordAt, number-bytesOf}
+use Rattle.crc.specs.Meaning.{checksumOf}
+use Rattle.crc.specs.Laws.{checksum-lt}
+use Rattle.packet.specs.Meaning.{covered, packetOf, dataLength, stands, findFrom, findMeans, headerMeans, payloadMeans}
+use Rattle.packet.specs.Laws.{Standing, stands-so, find-here}
+
+-- a written packet and whatever follows it
+abbrev pub written : ℕ → List ℕ → List ℕ → List ℕ
+written apid payload rest = packetOf apid payload ++ rest
+
+module _ (apid : ℕ) (payload rest : List ℕ) (small : length payload ≤ 8187) (word : apid < 2 ^ 16) where
+  -- the length word says n+4
+  length-word : wordAt (written apid payload rest) 4 ≡ length payload + 4
+  unfolding packetOf
+  length-word = number-bytesOf 2 (length payload + 4) (omega arith)
+
+  data-length : dataLength (written apid payload rest) 0 ≡ length payload
+  data-length = let same : length payload + 4 - 4 ≡ length payload = omega arith in ap (λ (w : ℕ). w - 4) length-word ∙ same
+
+  covered-length : length (covered apid payload) ≡ length payload + 8
+  covered-length = omega arith
+
+  -- the packet is what the checksum covers, the checksum, and what follows
+  parts : written apid payload rest ≡ covered apid payload ++ (bytesOf 2 (checksumOf (covered apid payload)) ++ rest)
+  unfolding packetOf
+  parts = append-assoc (covered apid payload) (bytesOf 2 (checksumOf (covered apid payload))) rest
+
+  -- what the checksum was formed over, and the word that holds it
+  summed : take (length payload + 8) (written apid payload rest) ≡ covered apid payload
+  summed =
+      ap (take (length payload + 8)) parts
+      ∙ take-at (covered apid payload) (bytesOf 2 (checksumOf (covered apid payload)) ++ rest) (length payload + 8) covered-length
+
+  sum-word : wordAt (written apid payload rest) (length payload + 8) ≡ checksumOf (covered apid payload)
+  sum-word =
+      ap (λ (l : List ℕ). number (take 2 l))
+      (ap (drop (length payload + 8)) parts
+      ∙ drop-at (covered apid payload) (bytesOf 2 (checksumOf (covered apid payload)) ++ rest) (length payload + 8) covered-length)
+      ∙ number-bytesOf 2 (checksumOf (covered apid payload)) (checksum-lt (covered apid payload))
+
+  long : length payload + 10 ≤ length (written apid payload rest)
+  long = omega (arith, ap length parts, length-append (covered apid payload) (bytesOf 2 (checksumOf (covered apid payload)) ++ rest))
+
+  all-holds : Standing (written apid payload rest) 0
+  unfolding packetOf
+  all-holds =
+      record {
+        room = omega (arith, long);
+        mark = refl;
+        least = omega (arith, length-word);
+        most = omega (arith, length-word);
+        whole = omega (arith, long, data-length);
+        sum =
+            ap (λ (n : ℕ). checksumOf (take (n + 8) (written apid payload rest))) data-length ∙ ap checksumOf summed ∙ sym sum-word
+            ∙ ap (wordAt (written apid payload rest)) (sym (zero-add (length payload + 8)) ∙ ap (λ (n : ℕ). 0 + (n + 8)) (sym data-length));
+      }
+
+  -- a written packet stands at place 0
+  pub written-stands : stands (written apid payload rest) 0 ≡ true
+  written-stands = stands-so (written apid payload rest) 0 all-holds
+
+  module _ (fits : length (written apid payload rest) ≤ 65536) where
+    -- `find` answers 0, skipped 0
+    pub written-found : findMeans (written apid payload rest) ≡ accepted (record { place = 0; skipped = 0 })
+    unfolding findMeans
+    written-found =
+        let w = written apid payload rest in
+        rw (le-ltb 65536 (length w) fits)
+        (ap (findFrom w 0) (sym (sub-zero (length w))) ∙ find-here w 0 (omega (arith, long)) written-stands)
+
+    -- `header` answers its APID and n
+    pub written-header : headerMeans (written apid payload rest) 0 ≡ accepted (record { apid = apid; length = length payload })
+    unfolding headerMeans packetOf
+    written-header =
+        rw (le-ltb 65536 (length (written apid payload rest)) fits, written-stands)
+        (ap₂ (λ (a n : ℕ). accepted (record { apid = a; length = n })) (number-bytesOf 2 apid word) data-length)
+
+    -- `payload` hands its data back
+    pub written-payload : payloadMeans (written apid payload rest) 0 ≡ payload
+    unfolding payloadMeans packetOf
+    written-payload =
+        let sum = bytesOf 2 (checksumOf (covered apid payload)) in
+        rw (le-ltb 65536 (length (written apid payload rest)) fits, written-stands)
+        (ap (λ (n : ℕ). take n ((payload ++ sum) ++ rest)) data-length
+        ∙ ap (take (length payload)) (append-assoc payload sum rest)
+        ∙ take-at payload (sum ++ rest) (length payload) refl)
