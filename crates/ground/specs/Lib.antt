@@ -2,3 +2,4 @@ pub mod Choice
 pub mod Paper
 pub mod Words
 pub mod Bits
+pub mod Putting

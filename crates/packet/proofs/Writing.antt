@@ -13,7 +13,8 @@ use Rattle.ground.specs.Paper.{accepted, refused}
 use Rattle.ground.specs.Words.{bytesOf}
 use Rattle.crc.specs.Meaning.{checksumOf}
 use Rattle.packet.specs.Meaning.{covered, packetOf, writeMeans, writeLeaves}
-use Rattle.packet.specs.Putting.{put, headOf, put-next}
+use Rattle.ground.specs.Putting.{put, put-next}
+use Rattle.packet.specs.Putting.{headOf}
 
 -- more data than a packet takes
 pub record TooMuch (buffer : List ℕ) (apid : ℕ) (payload : List ℕ) : Type 0 where

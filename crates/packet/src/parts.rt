@@ -5,7 +5,8 @@ ghost use mathlib.Core.List.{_++_};
 ghost use Prim.Native.Nat.{_+_, _≤_, _<_};
 ghost use lib.ListN.{length, take, drop, getD};
 ghost use Rattle.ground.specs.Words.{bytesOf, wordAt};
-ghost use Rattle.packet.specs.Putting.{put, headOf};
+ghost use Rattle.ground.specs.Putting.{put};
+ghost use Rattle.packet.specs.Putting.{headOf};
 ghost use Rattle.packet.specs.Meaning.{lies, marked, dataLength, checked, stands};
 
 // Whether a packet stands at a place.

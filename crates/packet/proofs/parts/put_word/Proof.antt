@@ -3,7 +3,7 @@
 use native.Mathlib.Omega.{arith}
 use borrow.Author.Needs.{needs}
 use lib.ListN.{length-set}
-use Rattle.packet.specs.Putting.{put-word}
+use Rattle.ground.specs.Putting.{put-word}
 use Rattle.packet.proofs.parts.put_word.Statement.{statement}
 use Rattle.packet.proofs.parts.put_word.Tie as tie
 
