@@ -1,0 +1,21 @@
+-- Two outcomes of a call that meet its promise are equal.
+-- Assumes nothing.
+use mathlib.Core.Path.{_≡_}
+use Prim.Native.Nat.{ℕ}
+use Rattle.ground.specs.Paper.{one-answer}
+use Rattle.cadence.specs.declared.Length.{Length}
+use Rattle.cadence.specs.declared.Level.{Level}
+use Rattle.cadence.specs.Answers.{lengthPaper, lengthBack, length-home, levelPaper, levelBack, level-home}
+use Rattle.cadence.specs.Promise.{SecondsPromise, BeginningPromise, EndingPromise}
+
+-- one length for a level
+pub seconds-one : {level : ℕ} {x y : Length} → SecondsPromise level x → SecondsPromise level y → x ≡ y
+seconds-one p q = one-answer lengthPaper lengthBack length-home (p .answer) (q .answer)
+
+-- one beginning level for a second
+pub beginning-one : {second : ℕ} {x y : Level} → BeginningPromise second x → BeginningPromise second y → x ≡ y
+beginning-one p q = one-answer levelPaper levelBack level-home (p .answer) (q .answer)
+
+-- one ending level for a second
+pub ending-one : {second : ℕ} {x y : Level} → EndingPromise second x → EndingPromise second y → x ≡ y
+ending-one p q = one-answer levelPaper levelBack level-home (p .answer) (q .answer)
