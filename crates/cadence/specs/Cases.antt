@@ -1,8 +1,7 @@
 -- Document 01's cases of the cadence, by computing.
 -- Assumes nothing.
 use mathlib.Core.Path.{_≡_, refl}
-use Prim.Native.Nat.{ℕ}
-use Rattle.ground.specs.Paper.{Paper, accepted, refused}
+use Rattle.ground.specs.Paper.{accepted, refused}
 use Rattle.cadence.specs.Meaning.{secondsMeans, beginningMeans, endingMeans}
 
 -- "Second 59: beginning 0"

@@ -1,14 +1,13 @@
 -- The computed highest level is the one of document 01's sentence: the two readings agree.
 -- Assumes nothing.
-use mathlib.Core.Path.{_≡_, refl, sym, ap, _∙_, subst}
-use mathlib.Core.Bool.{Bool, true, false}
-use mathlib.Core.Logic.{_⊎_, inl, inr, ⊎-elim}
-use Prim.Native.Nat.{ℕ, zero, suc, _+_, _%_, _≤_, _<_}
+use mathlib.Core.Path.{_≡_, subst}
+use mathlib.Core.Logic.{⊎-elim}
+use Prim.Native.Nat.{ℕ, zero, suc, _%_, _≤_, _<_}
 use native.Mathlib.Nat.{eq-or-lt-of-le}
 use native.Mathlib.Decide.{decLt}
 use native.Mathlib.Omega.{arith}
 use borrow.Author.Tests.{eqb-true, eqb-false}
-use Rattle.ground.specs.Choice.{pick, pick-elim}
+use Rattle.ground.specs.Choice.{pick-elim}
 use Rattle.cadence.specs.Meaning.{lengthOf, divides, highestTo, highestDividing, Highest}
 
 -- the same of the levels 0 to n

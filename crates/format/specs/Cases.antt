@@ -1,9 +1,9 @@
 -- Document 01's cases of the plain formats, by computing.
 -- Assumes nothing.
 use mathlib.Core.Path.{_≡_, refl}
-use Prim.Native.Nat.{ℕ, _^_}
+use Prim.Native.Nat.{_^_}
 use lib.Count.{leadingZeros}
-use Rattle.ground.specs.Paper.{Paper, accepted, refused}
+use Rattle.ground.specs.Paper.{accepted, refused}
 use Rattle.format.specs.Meaning.{floatValue, codeMeans, int24Means}
 
 -- "16-bit: 8191 is 0x1FFF"

@@ -21,21 +21,21 @@ floatValue w code =
     pick (eqb (exponent w code) 0) (mantissa w code) ((mantissa w code + 2 ^ w) * 2 ^ (exponent w code - 1))
 
 -- "A count takes the largest code whose value is not above it": its value is not above the count, and no larger code's is
-pub record Largest (w count code : ℕ) : Type 0 where
-  pub reached : floatValue w code ≤ count
-  pub most : (other : ℕ) → floatValue w other ≤ count → other ≤ code
+pub record Largest (value : ℕ → ℕ) (count code : ℕ) : Type 0 where
+  pub reached : value code ≤ count
+  pub most : (other : ℕ) → value other ≤ count → other ≤ code
 
--- "A count takes the largest code ..."; "Counts from 2^27 (16-bit) or 2^34 (8-bit) on are refused" by 12, count too large for the format
-abbrev pub Takes : ℕ → ℕ → ℕ → Paper ℕ → Type 0
-Takes w limit count (accepted code) = (count < limit) × Largest w count code
-Takes w limit count (refused n) = (limit ≤ count) × (n ≡ 12)
-Takes w limit count (refusedWith n x) = ⊥
+-- below the format's limit a count takes that code; "Counts from .. on are refused" by 12, count too large for the format
+abbrev pub Takes : (ℕ → ℕ) → ℕ → ℕ → Paper ℕ → Type 0
+Takes value limit count (accepted code) = (count < limit) × Largest value count code
+Takes value limit count (refused n) = (limit ≤ count) × (n ≡ 12)
+Takes value limit count (refusedWith n x) = ⊥
 
 -- how often a count is halved until w + 1 bits hold it: "w mantissa bits" and the leading one
 abbrev pub halvingsOf : ℕ → ℕ → ℕ
 halvingsOf w count = 63 - w - leadingZeros 64 count
 
--- the largest code whose value is not above a count, computed: `Laws` shows that it is the one of the sentence
+-- the largest code whose value is not above a count, computed: `Floats` shows that it is the one of the sentence
 abbrev pub codeOf : ℕ → ℕ → ℕ
 codeOf w count = halvingsOf w count * 2 ^ w + count / 2 ^ halvingsOf w count
 

@@ -8,13 +8,14 @@ use Rattle.format.specs.declared.Code8.{Code8}
 use Rattle.format.specs.declared.Code24.{Code24}
 use Rattle.format.specs.declared.Count24.{Count24}
 use Rattle.format.specs.Answers.{code16Paper, code16Back, code16-home, code8Paper, code8Back, code8-home, code24Paper, code24Back, code24-home, count24Paper, count24Back, count24-home}
-use Rattle.format.specs.Laws.{takes-one}
+use Rattle.format.specs.Codes.{takes-one}
+use Rattle.format.specs.Meaning.{floatValue}
 use Rattle.format.specs.Promise.{Float16CodePromise, Float16CountPromise, Float8CodePromise, Float8CountPromise, Int24CodePromise, Int24CountPromise}
 
 -- one 16-bit float for a count
 pub float16-code-one : {count : ℕ} {x y : Code16} → Float16CodePromise count x → Float16CodePromise count y → x ≡ y
 float16-code-one {count} {x} {y} p q =
-    one-answer code16Paper code16Back code16-home (takes-one 12 (2 ^ 27) count (code16Paper x) (code16Paper y) (p .answer) (q .answer)) refl
+    one-answer code16Paper code16Back code16-home (takes-one (floatValue 12) (2 ^ 27) count (code16Paper x) (code16Paper y) (p .answer) (q .answer)) refl
 
 -- one count for a 16-bit float
 pub float16-count-one : {code x y : ℕ} → Float16CountPromise code x → Float16CountPromise code y → x ≡ y
@@ -23,7 +24,7 @@ float16-count-one p q = one-value (p .answer) (q .answer)
 -- one 8-bit float for a count
 pub float8-code-one : {count : ℕ} {x y : Code8} → Float8CodePromise count x → Float8CodePromise count y → x ≡ y
 float8-code-one {count} {x} {y} p q =
-    one-answer code8Paper code8Back code8-home (takes-one 3 (2 ^ 34) count (code8Paper x) (code8Paper y) (p .answer) (q .answer)) refl
+    one-answer code8Paper code8Back code8-home (takes-one (floatValue 3) (2 ^ 34) count (code8Paper x) (code8Paper y) (p .answer) (q .answer)) refl
 
 -- one count for an 8-bit float
 pub float8-count-one : {code x y : ℕ} → Float8CountPromise code x → Float8CountPromise code y → x ≡ y

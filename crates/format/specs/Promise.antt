@@ -11,7 +11,7 @@ use Rattle.format.specs.Meaning.{floatValue, Takes, int24Means}
 
 -- the largest 16-bit float whose value is not above the count; 12 from 2^27 on
 pub record Float16CodePromise (count : ℕ) (r : Code16) : Type 0 where
-  pub answer : Takes 12 (2 ^ 27) count (code16Paper r)
+  pub answer : Takes (floatValue 12) (2 ^ 27) count (code16Paper r)
 
 -- the value of the 16-bit float
 pub record Float16CountPromise (code r : ℕ) : Type 0 where
@@ -19,7 +19,7 @@ pub record Float16CountPromise (code r : ℕ) : Type 0 where
 
 -- the largest 8-bit float whose value is not above the count; 12 from 2^34 on
 pub record Float8CodePromise (count : ℕ) (r : Code8) : Type 0 where
-  pub answer : Takes 3 (2 ^ 34) count (code8Paper r)
+  pub answer : Takes (floatValue 3) (2 ^ 34) count (code8Paper r)
 
 -- the value of the 8-bit float
 pub record Float8CountPromise (code r : ℕ) : Type 0 where

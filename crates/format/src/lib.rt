@@ -1,6 +1,6 @@
 // The plain count formats: a 16-bit float, an 8-bit float and a 24-bit integer, from count to code and back.
 ghost use mathlib.Core.Path.{_≡_};
-ghost use Prim.Native.Nat.{_-_, _*_, _/_, _^_, _≤_, _<_};
+ghost use Prim.Native.Nat.{_-_, _*_, _/_, _^_, _<_};
 ghost use lib.Count.{leadingZeros};
 ghost use Rattle.ground.specs.Paper.{numberOf};
 ghost use Rattle.format.specs.Answers.{code16Paper, code8Paper, code24Paper, count24Paper};
@@ -164,7 +164,7 @@ fn halvings(spare: u64, count: u64) -> u64
 // A count halved so often.
 fn halved(count: u64, times: u64) -> u64
     requires { ⌜ times < 64 ⌝ }
-    ensures { λ r. ⌜ (r ≡ count / 2 ^ times) × (r ≤ count) ⌝ }
+    ensures { λ r. ⌜ r ≡ count / 2 ^ times ⌝ }
 {
     count >> times
 }

@@ -1,18 +1,18 @@
 -- What holds of every float format, over the number w of its mantissa bits.
 -- Assumes nothing.
 use mathlib.Core.Path.{_≡_, refl, sym, ap, ap₂, _∙_, subst}
-use mathlib.Core.Bool.{Bool, true, false}
 use mathlib.Core.Logic.{_⊎_, inl, inr, ⊎-elim}
-use Prim.Native.Nat.{ℕ, zero, suc, _+_, _-_, _*_, _/_, _%_, _^_, _≤_, _<_}
-use native.Mathlib.Nat.{le-of-eq, zero-div, zero-lt-suc, div-le-self, zero-add, add-zero, add-suc, zero-mul, suc-mul, mul-one, one-mul, add-mul, mul-assoc, pow-suc, div-one, div-eq-of-lt, mod-eq-of-lt, mod-lt, lt-div-mul-add, div-mul-le-self, le-div-iff-mul-le, div-lt-iff-lt-mul, le-refl, le-antisymm, le-trans, eq-or-lt-of-le, lt-of-lt-of-le, lt-irrefl, suc-sub-suc, sub-zero}
-use native.Mathlib.Decide.{decLt, ℕ-discrete, le-ind}
+use Prim.Native.Nat.{ℕ, zero, suc, _+_, _-_, _*_, _/_, _^_, _≤_, _<_}
+use native.Mathlib.Nat.{le-of-eq, zero-div, zero-lt-suc, div-le-self, zero-add, add-suc, zero-mul, suc-mul, add-mul, mul-assoc, pow-suc, div-one, mod-lt, lt-div-mul-add, div-mul-le-self, le-div-iff-mul-le, div-lt-iff-lt-mul, lt-of-lt-of-le, lt-irrefl, suc-sub-suc, sub-zero}
+use native.Mathlib.Decide.{decLt, le-ind}
 use native.Mathlib.Omega.{arith}
 use lib.Pow.{pow-pos, pow-add, pow-mono, split, high, low}
 use lib.Count.{leadingZeros, leading-of-zero, leading-top}
-use lib.Dec.{ltb, eqb, eqb·suc-zero}
+use lib.Dec.{ltb, eqb·suc-zero}
 use borrow.Author.Tests.{ltb-true, ltb-false}
-use Rattle.ground.specs.Choice.{pick, pick-elim}
-use Rattle.ground.specs.Paper.{Paper, accepted, refused, refusedWith}
+use Rattle.ground.specs.Choice.{pick-elim}
+use Rattle.ground.specs.Paper.{Paper, accepted, refused}
+use Rattle.format.specs.Codes.{Grows, between-largest, value-largest, largest-one, takes-one}
 use Rattle.format.specs.Meaning.{exponent, mantissa, floatValue, Largest, Takes, halvingsOf, codeOf, codeMeans}
 
 -- the value of exponent and mantissa, by the two kinds of exponent
@@ -61,61 +61,22 @@ value-next w code =
     (next-fields w (exponent w code) (mantissa w code) (mod-lt code (pow-pos w)))
 
 -- value grows with the code
-pub value-grows : (w : ℕ) {a b : ℕ} → a < b → floatValue w a < floatValue w b
-value-grows w {a} {b} h =
+pub value-grows : (w : ℕ) → Grows (floatValue w)
+value-grows w a b h =
     le-ind (λ (m : ℕ). floatValue w a < floatValue w m) (omega (arith, value-next w a, pow-pos (exponent w a - 1)))
     (λ m k e. omega (arith, value-next w m, e)) b h
-
--- what lies between the values of a code and the next takes that code
-pub between-largest : (w : ℕ) {count code : ℕ} → floatValue w code ≤ count → count < floatValue w (suc code) → Largest w count code
-between-largest w {count} {code} a b = record { reached = a; most = most }
-  where
-    most : (other : ℕ) → floatValue w other ≤ count → other ≤ code
-    most other h =
-        elim (decLt (suc code) other) [
-          | yes k ↦ absurd (lt-irrefl count (omega (arith, value-grows w k)))
-          | no k ↦ elim (ℕ-discrete other (suc code)) [
-            | yes e ↦ absurd (lt-irrefl count (lt-of-lt-of-le b (subst (λ (x : ℕ). floatValue w x ≤ count) e h)))
-            | no e ↦ omega arith
-          ]
-        ]
-
--- the value of a count's code is not above the count (`reached`), and the next code's value is
-pub next-above : (w : ℕ) {count code : ℕ} → Largest w count code → count < floatValue w (suc code)
-next-above w {count} {code} p =
-    elim (decLt count (floatValue w (suc code))) [
-      | yes h ↦ h
-      | no h ↦ absurd (lt-irrefl code (p .most (suc code) (omega arith)))
-    ]
-
--- a count takes one code
-pub largest-one : {w count a b : ℕ} → Largest w count a → Largest w count b → a ≡ b
-largest-one {a = a} {b = b} p q = le-antisymm (q .most a (p .reached)) (p .most b (q .reached))
-
--- the code of a value is that code
-pub value-largest : (w code : ℕ) → Largest w (floatValue w code) code
-value-largest w code = between-largest w (le-refl (floatValue w code)) (value-grows w (le-refl (suc code)))
-
--- a count below the value of a code takes a code below it
-pub code-below : (w : ℕ) {count code : ℕ} (bound : ℕ) → Largest w count code → count < floatValue w bound → code < bound
-code-below w {count} {code} bound p h =
-    elim (decLt code bound) [
-      | yes k ↦ k
-      | no k ↦ ⊎-elim (λ (e : bound ≡ code). absurd (lt-irrefl count (lt-of-lt-of-le h (subst (λ (x : ℕ). floatValue w x ≤ count) (sym e) (p .reached)))))
-          (λ (l : bound < code). absurd (lt-irrefl count (omega (arith, value-grows w l, p .reached)))) (eq-or-lt-of-le (omega arith))
-    ]
 
 -- a code without exponent means itself
 low-value : (w : ℕ) {f : ℕ} → f < 2 ^ w → floatValue w f ≡ f
 low-value w {f} h = let q : f ≡ 0 * 2 ^ w + f = omega arith in ap (floatValue w) q ∙ value-fields w zero h
 
 -- a count of at most w bits takes itself
-small-largest : (w : ℕ) {count : ℕ} → count < 2 ^ w → Largest w count count
+small-largest : (w : ℕ) {count : ℕ} → count < 2 ^ w → Largest (floatValue w) count count
 small-largest w {count} h =
-    between-largest w (le-of-eq (low-value w h)) (omega (arith, low-value w h, value-next w count, pow-pos (exponent w count - 1)))
+    between-largest (floatValue w) (value-grows w) (le-of-eq (low-value w h)) (omega (arith, low-value w h, value-next w count, pow-pos (exponent w count - 1)))
 
 -- a count whose leading w + 1 bits are t, with s bits below them
-large-largest : (w s t count : ℕ) → 2 ^ w ≤ t → t < 2 ^ w + 2 ^ w → t * 2 ^ s ≤ count → count < t * 2 ^ s + 2 ^ s → Largest w count (s * 2 ^ w + t)
+large-largest : (w s t count : ℕ) → 2 ^ w ≤ t → t < 2 ^ w + 2 ^ w → t * 2 ^ s ≤ count → count < t * 2 ^ s + 2 ^ s → Largest (floatValue w) count (s * 2 ^ w + t)
 large-largest w s t count a b c d =
     let f : t - 2 ^ w < 2 ^ w = omega arith in
     let code : suc s * 2 ^ w + (t - 2 ^ w) ≡ s * 2 ^ w + t = omega (arith, suc-mul s (2 ^ w)) in
@@ -123,8 +84,8 @@ large-largest w s t count a b c d =
     let v : floatValue w (suc s * 2 ^ w + (t - 2 ^ w)) ≡ t * 2 ^ s = value-fields w (suc s) f ∙ ap (λ (x : ℕ). x * 2 ^ s) back in
     let n : floatValue w (suc (suc s * 2 ^ w + (t - 2 ^ w))) ≡ t * 2 ^ s + 2 ^ s =
     next-fields w (suc s) (t - 2 ^ w) f ∙ ap₂ (λ (x y : ℕ). x + 2 ^ y) v (suc-sub-suc s 0 ∙ sub-zero s) in
-    subst (λ (x : ℕ). Largest w count x) code
-    (between-largest w (subst (λ (x : ℕ). x ≤ count) (sym v) c) (subst (λ (x : ℕ). count < x) (sym n) d))
+    subst (λ (x : ℕ). Largest (floatValue w) count x) code
+    (between-largest (floatValue w) (value-grows w) (subst (λ (x : ℕ). x ≤ count) (sym v) c) (subst (λ (x : ℕ). count < x) (sym n) d))
 
 -- s halvings leave at most w + 1 bits, and no fewer unless there were none
 record Scaled (w s count : ℕ) : Type 0 where
@@ -132,18 +93,18 @@ record Scaled (w s count : ℕ) : Type 0 where
   full : (s ≡ 0) ⊎ (2 ^ w ≤ count / 2 ^ s)
 
 -- the code that the halvings give is the largest
-scaled-largest : (w s count : ℕ) → Scaled w s count → Largest w count (s * 2 ^ w + count / 2 ^ s)
+scaled-largest : (w s count : ℕ) → Scaled w s count → Largest (floatValue w) count (s * 2 ^ w + count / 2 ^ s)
 scaled-largest w s count p =
     elim (decLt (count / 2 ^ s) (2 ^ w)) [
       | yes h ↦ ⊎-elim (λ (e : s ≡ 0). none e h) (λ (l : 2 ^ w ≤ count / 2 ^ s). absurd (lt-irrefl (2 ^ w) (omega arith))) (p .full)
       | no h ↦ large-largest w s (count / 2 ^ s) count (omega arith) (p .held) (div-mul-le-self count (2 ^ s)) (lt-div-mul-add (pow-pos s))
     ]
   where
-    none : s ≡ 0 → count / 2 ^ s < 2 ^ w → Largest w count (s * 2 ^ w + count / 2 ^ s)
+    none : s ≡ 0 → count / 2 ^ s < 2 ^ w → Largest (floatValue w) count (s * 2 ^ w + count / 2 ^ s)
     none e h =
         let q : count / 2 ^ s ≡ count = ap (λ (x : ℕ). count / 2 ^ x) e ∙ div-one count in
         let code : s * 2 ^ w + count / 2 ^ s ≡ count = ap₂ (λ (x y : ℕ). x * 2 ^ w + y) e q ∙ ap (λ (x : ℕ). x + count) (zero-mul (2 ^ w)) ∙ zero-add count in
-        subst (λ (x : ℕ). Largest w count x) (sym code) (small-largest w (subst (λ (x : ℕ). x < 2 ^ w) q h))
+        subst (λ (x : ℕ). Largest (floatValue w) count x) (sym code) (small-largest w (subst (λ (x : ℕ). x < 2 ^ w) q h))
 
 -- z zeros above the leading bit, and j bits below it, of 64
 top-scaled : (w z j count : ℕ) → w < 64 → z + suc j ≡ 64 → 2 ^ j ≤ count → count < 2 ^ suc j → Scaled w (63 - w - z) count
@@ -171,34 +132,20 @@ halvings-scaled w (suc n) a h =
     let t = leading-top 64 (suc n) (zero-lt-suc n) h in top-scaled w (leadingZeros 64 (suc n)) (t .0) (suc n) a (t .1) (t .2) (t .3)
 
 -- the computed code is the largest whose value is not above the count
-pub code-largest : (w count : ℕ) → w < 64 → count < 2 ^ 64 → Largest w count (codeOf w count)
+pub code-largest : (w count : ℕ) → w < 64 → count < 2 ^ 64 → Largest (floatValue w) count (codeOf w count)
 code-largest w count a h = scaled-largest w (halvingsOf w count) count (halvings-scaled w count a h)
 
 -- the computed code of a value is that code
 pub code-of-value : (w code : ℕ) → w < 64 → floatValue w code < 2 ^ 64 → codeOf w (floatValue w code) ≡ code
-code-of-value w code a h = largest-one (code-largest w (floatValue w code) a h) (value-largest w code)
-
--- a greater count never takes a smaller code
-pub code-grows : (w : ℕ) {m n a b : ℕ} → m ≤ n → Largest w m a → Largest w n b → a ≤ b
-code-grows w {a = a} h p q = q .most a (le-trans (p .reached) h)
-
--- the sentence has one answer to a count
-pub takes-one : (w limit count : ℕ) (p q : Paper ℕ) → Takes w limit count p → Takes w limit count q → p ≡ q
-takes-one w limit count (accepted a) (accepted b) x y = ap accepted (largest-one (x .1) (y .1))
-takes-one w limit count (accepted a) (refused n) x y = absurd (lt-irrefl count (lt-of-lt-of-le (x .0) (y .0)))
-takes-one w limit count (refused m) (accepted b) x y = absurd (lt-irrefl count (lt-of-lt-of-le (y .0) (x .0)))
-takes-one w limit count (refused m) (refused n) x y = ap refused (x .1 ∙ sym (y .1))
-takes-one w limit count (accepted a) (refusedWith n v) x y = absurd y
-takes-one w limit count (refused m) (refusedWith n v) x y = absurd y
-takes-one w limit count (refusedWith m v) q x y = absurd x
+code-of-value w code a h = largest-one (code-largest w (floatValue w code) a h) (value-largest (floatValue w) (value-grows w) code)
 
 -- the computed answer is the sentence's
-pub means-takes : (w limit count : ℕ) → w < 64 → limit ≤ 2 ^ 64 → Takes w limit count (codeMeans w limit count)
+pub means-takes : (w limit count : ℕ) → w < 64 → limit ≤ 2 ^ 64 → Takes (floatValue w) limit count (codeMeans w limit count)
 means-takes w limit count a l =
-    pick-elim (λ (p : Paper ℕ). Takes w limit count p) (ltb count limit) (accepted (codeOf w count)) (refused 12)
+    pick-elim (λ (p : Paper ℕ). Takes (floatValue w) limit count p) (ltb count limit) (accepted (codeOf w count)) (refused 12)
     (λ e. (ltb-true count limit e, code-largest w count a (lt-of-lt-of-le (ltb-true count limit e) l)))
     (λ e. (ltb-false count limit e, refl))
 
 -- the sentence's answer is the computed one
-pub takes-means : (w limit count : ℕ) → w < 64 → limit ≤ 2 ^ 64 → (p : Paper ℕ) → Takes w limit count p → p ≡ codeMeans w limit count
-takes-means w limit count a l p t = takes-one w limit count p (codeMeans w limit count) t (means-takes w limit count a l)
+pub takes-means : (w limit count : ℕ) → w < 64 → limit ≤ 2 ^ 64 → (p : Paper ℕ) → Takes (floatValue w) limit count p → p ≡ codeMeans w limit count
+takes-means w limit count a l p t = takes-one (floatValue w) limit count p (codeMeans w limit count) t (means-takes w limit count a l)
