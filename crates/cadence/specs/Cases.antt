@@ -24,9 +24,10 @@ second-3599-ends = refl
 pub second-3600-refused : endingMeans 3600 ≡ refused 19
 second-3600-refused = refl
 
--- the highest level lasts the hour, and there is none above it
+-- the highest level lasts the hour
 pub level-7-lasts : secondsMeans 7 ≡ accepted 3600
 level-7-lasts = refl
 
+-- there is no level above it
 pub level-8-refused : secondsMeans 8 ≡ refused 19
 level-8-refused = refl

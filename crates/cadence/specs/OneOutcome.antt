@@ -1,11 +1,12 @@
 -- Two outcomes of a call that meet its promise are equal.
 -- Assumes nothing.
-use mathlib.Core.Path.{_≡_}
-use Prim.Native.Nat.{ℕ}
+use mathlib.Core.Path.{_≡_, refl}
+use Prim.Native.Nat.{ℕ, _+_}
 use Rattle.ground.specs.Paper.{one-answer}
 use Rattle.cadence.specs.declared.Length.{Length}
 use Rattle.cadence.specs.declared.Level.{Level}
 use Rattle.cadence.specs.Answers.{lengthPaper, lengthBack, length-home, levelPaper, levelBack, level-home}
+use Rattle.cadence.specs.Sentence.{level-one}
 use Rattle.cadence.specs.Promise.{SecondsPromise, BeginningPromise, EndingPromise}
 
 -- one length for a level
@@ -14,8 +15,10 @@ seconds-one p q = one-answer lengthPaper lengthBack length-home (p .answer) (q .
 
 -- one beginning level for a second
 pub beginning-one : {second : ℕ} {x y : Level} → BeginningPromise second x → BeginningPromise second y → x ≡ y
-beginning-one p q = one-answer levelPaper levelBack level-home (p .answer) (q .answer)
+beginning-one {second} {x} {y} p q =
+    one-answer levelPaper levelBack level-home (level-one second second (levelPaper x) (levelPaper y) (p .answer) (q .answer)) refl
 
 -- one ending level for a second
 pub ending-one : {second : ℕ} {x y : Level} → EndingPromise second x → EndingPromise second y → x ≡ y
-ending-one p q = one-answer levelPaper levelBack level-home (p .answer) (q .answer)
+ending-one {second} {x} {y} p q =
+    one-answer levelPaper levelBack level-home (level-one second (second + 1) (levelPaper x) (levelPaper y) (p .answer) (q .answer)) refl

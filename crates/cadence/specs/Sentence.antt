@@ -1,14 +1,16 @@
 -- The computed highest level is the one of document 01's sentence: the two readings agree.
 -- Assumes nothing.
-use mathlib.Core.Path.{_≡_, subst}
+use mathlib.Core.Path.{_≡_, refl, sym, ap, _∙_, subst}
 use mathlib.Core.Logic.{⊎-elim}
 use Prim.Native.Nat.{ℕ, zero, suc, _%_, _≤_, _<_}
-use native.Mathlib.Nat.{eq-or-lt-of-le}
+use native.Mathlib.Nat.{eq-or-lt-of-le, lt-of-lt-of-le, lt-irrefl}
 use native.Mathlib.Decide.{decLt}
 use native.Mathlib.Omega.{arith}
-use borrow.Author.Tests.{eqb-true, eqb-false}
+use lib.Dec.{ltb}
+use borrow.Author.Tests.{eqb-true, eqb-false, ltb-true, ltb-false}
 use Rattle.ground.specs.Choice.{pick-elim}
-use Rattle.cadence.specs.Meaning.{lengthOf, divides, highestTo, highestDividing, Highest}
+use Rattle.ground.specs.Paper.{Paper, accepted, refused, refusedWith}
+use Rattle.cadence.specs.Meaning.{lengthOf, divides, Highest, LevelIn, highestTo, highestDividing, levelMeans}
 
 -- the same of the levels 0 to n
 record To (n t level : ℕ) : Type 0 where
@@ -36,6 +38,10 @@ to (suc n) t =
 pub highest-is : (t : ℕ) → Highest t (highestDividing t)
 highest-is t = let p = to 7 t in record { within = p .within; whole = p .whole; above = p .above }
 
+-- a level that the computation gives is the sentence's
+pub highest-when : {t level : ℕ} → level ≡ highestDividing t → Highest t level
+highest-when {t} e = subst (λ (l : ℕ). Highest t l) (sym e) (highest-is t)
+
 -- the sentence has one level
 pub highest-one : {t a b : ℕ} → Highest t a → Highest t b → a ≡ b
 highest-one {t} {a} {b} p q =
@@ -47,3 +53,23 @@ highest-one {t} {a} {b} p q =
 -- the sentence's level is the computed one
 pub highest-only : {t level : ℕ} → Highest t level → level ≡ highestDividing t
 highest-only {t} p = highest-one p (highest-is t)
+
+-- the sentence has one answer to a second
+pub level-one : (second elapsed : ℕ) (p q : Paper ℕ) → LevelIn second elapsed p → LevelIn second elapsed q → p ≡ q
+level-one second elapsed (accepted a) (accepted b) x y = ap accepted (highest-one (x .1) (y .1))
+level-one second elapsed (accepted a) (refused n) x y = absurd (lt-irrefl 3599 (lt-of-lt-of-le (y .0) (x .0)))
+level-one second elapsed (refused m) (accepted b) x y = absurd (lt-irrefl 3599 (lt-of-lt-of-le (x .0) (y .0)))
+level-one second elapsed (refused m) (refused n) x y = ap refused (x .1 ∙ sym (y .1))
+level-one second elapsed (accepted a) (refusedWith n v) x y = absurd y
+level-one second elapsed (refused m) (refusedWith n v) x y = absurd y
+level-one second elapsed (refusedWith m v) q x y = absurd x
+
+-- the computed answer is the sentence's
+pub means-level : (second elapsed : ℕ) → LevelIn second elapsed (levelMeans second elapsed)
+means-level second elapsed =
+    pick-elim (λ (p : Paper ℕ). LevelIn second elapsed p) (ltb 3599 second) (refused 19) (accepted (highestDividing elapsed))
+    (λ e. (ltb-true 3599 second e, refl)) (λ e. (ltb-false 3599 second e, highest-is elapsed))
+
+-- the sentence's answer is the computed one
+pub level-means : (second elapsed : ℕ) (p : Paper ℕ) → LevelIn second elapsed p → p ≡ levelMeans second elapsed
+level-means second elapsed p t = level-one second elapsed p (levelMeans second elapsed) t (means-level second elapsed)

@@ -1,7 +1,7 @@
 // The one-hour cadence: how long each level lasts, and which level begins and which ends in a second of the hour.
 ghost use mathlib.Core.Path.{_≡_};
 ghost use Rattle.ground.specs.Paper.{numberOf};
-ghost use Rattle.cadence.specs.Meaning.{highestDividing};
+ghost use Rattle.cadence.specs.Meaning.{Highest};
 ghost use Rattle.cadence.specs.Answers.{lengthPaper, levelPaper};
 ghost use Rattle.cadence.specs.Promise.{SecondsPromise, BeginningPromise, EndingPromise};
 
@@ -79,7 +79,7 @@ pub fn level_number(answer: Level) -> u8
 
 // The highest level whose length divides a number of seconds.
 fn highest(t: u16) -> u8
-    ensures { λ r. ⌜ r ≡ highestDividing t ⌝ }
+    ensures { λ r. ⌜ Highest t r ⌝ }
 {
     if t % 3600 == 0 {
         return 7;

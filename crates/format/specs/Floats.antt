@@ -29,13 +29,14 @@ value-fields w (suc e) {f} h = rw (high (suc e) w h, low (suc e) w h, eqb·suc-z
 abbrev pub gap : ℕ → ℕ → ℕ
 gap w code = 2 ^ (exponent w code - 1)
 
--- within an exponent, and over to the next
+-- one more in the mantissa is a step
 inside : (w e f : ℕ) → fields w e (suc f) ≡ fields w e f + 2 ^ (e - 1)
 inside w zero f = omega arith
 inside w (suc e) f =
     let q : suc f + 2 ^ w ≡ suc (f + 2 ^ w) = omega arith in
     rw (suc-sub-suc e 0, sub-zero e) (ap (λ (x : ℕ). x * 2 ^ e) q ∙ suc-mul (f + 2 ^ w) (2 ^ e))
 
+-- from the last mantissa over to the next exponent is a step too
 over : (w e f : ℕ) → suc f ≡ 2 ^ w → fields w (suc e) 0 ≡ fields w e f + 2 ^ (e - 1)
 over w zero f h = omega arith
 over w (suc e) f h =
@@ -45,6 +46,7 @@ over w (suc e) f h =
     sym (suc-mul (f + 2 ^ w) (2 ^ e)) ∙ ap (λ (x : ℕ). x * 2 ^ e) q ∙ add-mul (2 ^ w) (2 ^ w) (2 ^ e) in
     rw (suc-sub-suc e 0, sub-zero e) (omega arith)
 
+-- the next code's value, by exponent and mantissa
 next-fields : (w e f : ℕ) → f < 2 ^ w → floatValue w (suc (e * 2 ^ w + f)) ≡ floatValue w (e * 2 ^ w + f) + 2 ^ (e - 1)
 next-fields w e f h =
     elim (decLt (suc f) (2 ^ w)) [

@@ -96,7 +96,8 @@ pub fn int24_code(count: u64) -> Code24
     if (LAST24 as u64) < count {
         return Code24::TooLarge;
     }
-    Code24::Code(count as u32)
+    let code = count as u32;
+    Code24::Code(code)
 }
 
 // The count that a 24-bit integer means: the code itself.

@@ -11,11 +11,11 @@ cast-if1 c = search needs
 returns : tie.Need-returns
 returns c = record { answer = rw (lt-ltb 16777215 (c .before .args .count) (c .if1 .taken)) }
 
-cast-t4 : tie.Need-cast-t4
-cast-t4 c = search needs
+cast-code : tie.Need-cast-code
+cast-code c = search needs
 
 returns-2 : tie.Need-returns-2
 returns-2 c = record { answer = rw (le-ltb 16777215 (c .before .args .count) (c .if1 .left)) }
 
 pub int24-code-spec : {M : Type 1} → statement M
-int24-code-spec = tie.close (tie.spec cast-if1 returns cast-t4 returns-2)
+int24-code-spec = tie.close (tie.spec cast-if1 returns cast-code returns-2)
