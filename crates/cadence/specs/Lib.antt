@@ -3,4 +3,5 @@ pub mod Answers
 pub mod Promise
 pub mod OneOutcome
 pub mod Sentence
+pub mod Lengths
 pub mod Cases

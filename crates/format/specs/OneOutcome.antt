@@ -2,7 +2,7 @@
 -- Assumes nothing.
 use mathlib.Core.Path.{_≡_, refl}
 use Prim.Native.Nat.{ℕ, _^_}
-use Rattle.ground.specs.Paper.{one-answer, one-value}
+use Rattle.ground.specs.Paper.{numberOf, one-answer, one-value}
 use Rattle.format.specs.declared.Code16.{Code16}
 use Rattle.format.specs.declared.Code8.{Code8}
 use Rattle.format.specs.declared.Code24.{Code24}
@@ -37,3 +37,19 @@ int24-code-one p q = one-answer code24Paper code24Back code24-home (p .answer) (
 -- one count for a 24-bit integer
 pub int24-count-one : {code : ℕ} {x y : Count24} → Int24CountPromise code x → Int24CountPromise code y → x ≡ y
 int24-count-one p q = one-answer count24Paper count24Back count24-home (p .answer) (q .answer)
+
+-- one number for a 16-bit float's answer
+pub code16-number-one : (answer : Code16) {x y : ℕ} → x ≡ numberOf (code16Paper answer) → y ≡ numberOf (code16Paper answer) → x ≡ y
+code16-number-one answer p q = one-value p q
+
+-- one number for an 8-bit float's answer
+pub code8-number-one : (answer : Code8) {x y : ℕ} → x ≡ numberOf (code8Paper answer) → y ≡ numberOf (code8Paper answer) → x ≡ y
+code8-number-one answer p q = one-value p q
+
+-- one number for a 24-bit integer's answer
+pub code24-number-one : (answer : Code24) {x y : ℕ} → x ≡ numberOf (code24Paper answer) → y ≡ numberOf (code24Paper answer) → x ≡ y
+code24-number-one answer p q = one-value p q
+
+-- one number for a 24-bit count's answer
+pub count24-number-one : (answer : Count24) {x y : ℕ} → x ≡ numberOf (count24Paper answer) → y ≡ numberOf (count24Paper answer) → x ≡ y
+count24-number-one answer p q = one-value p q
