@@ -1,0 +1,9 @@
+pub mod Meaning
+pub mod Answers
+pub mod Promise
+pub mod OneOutcome
+pub mod Codes
+pub mod Floats
+pub mod Widths
+pub mod RoundTrip
+pub mod Cases
