@@ -7,6 +7,8 @@
 
 mod blocks;
 mod checksum;
+mod message;
+mod packet;
 mod random;
 
 use std::io::{Read, Write};
@@ -16,6 +18,11 @@ fn answer(block: &[u8]) -> String {
     let Some((&call, given)) = block.split_first() else { return String::new() };
     match call {
         b'c' => format!("{:04x}", checksum::of(given)),
+        b'f' => packet::find_line(given),
+        b'h' => packet::header_line(given),
+        b'w' => packet::write_line(given),
+        b'r' => message::read_line(given),
+        b'm' => message::write_line(given),
         _ => String::new(),
     }
 }
@@ -25,6 +32,8 @@ fn feed() -> Vec<Vec<u8>> {
     let mut random = random::Random::new(1);
     let mut all = Vec::new();
     checksum::blocks(&mut random, &mut all);
+    packet::blocks(&mut random, &mut all);
+    message::blocks(&mut random, &mut all);
     all
 }
 
