@@ -2,20 +2,20 @@
 -- Assumes nothing.
 use mathlib.Core.Path.{_≡_, refl, sym, ap, ap₂, _∙_, subst}
 use mathlib.Core.Bool.{Bool, true, false}
-use mathlib.Core.List.{List, [], _∷_, _++_}
-use Prim.Native.Nat.{ℕ, zero, suc, _+_, _*_, _-_, _/_, _%_, _^_, _<_, _≤_}
+use mathlib.Core.List.{List, _∷_}
+use Prim.Native.Nat.{ℕ, zero, suc, _+_, _*_, _-_, _%_, _^_, _<_, _≤_}
 use native.Mathlib.Nat.{mod-eq-of-lt}
 use native.Mathlib.Numerals.{add-one}
 use native.Mathlib.Omega.{arith}
 use lib.ListN.{length, length-append, length-drop, take, drop, getD, drop-of-length-le}
 use lib.Seq.{drop-cons}
-use lib.Pow.{pow-pos, pow-mono}
-use lib.Dec.{ltb, eqb}
-use borrow.Author.Tests.{lt-ltb, le-ltb, eq-eqb, ne-eqb}
+use lib.Pow.{pow-mono}
+use lib.Dec.{ltb}
+use borrow.Author.Tests.{lt-ltb, le-ltb, ne-eqb}
 use Rattle.ground.specs.Choice.{pick}
 use Rattle.ground.specs.Paper.{Paper, accepted, refused}
-use Rattle.code.specs.Meaning.{Shape, small, mid, big, Parsed, found, ranOut, redundantZero, runTooLong, Taken, counted, fromBits, filled, signed, value, magnitude, field, bigField, parityThen, unlessZero, afterRun, afterSign, parse, parseAt, bits, answerOf, unpackMeans, dropTaken, largest, longestRun}
-use Rattle.code.specs.Shapes.{Drop, none, three, Valid, Exact, parse-exact, bits-some}
+use Rattle.code.specs.Meaning.{Shape, small, mid, big, Parsed, found, ranOut, redundantZero, runTooLong, Taken, counted, fromBits, filled, signed, value, field, bigField, parityThen, unlessZero, afterRun, afterSign, parse, parseAt, bits, answerOf, unpackMeans, dropTaken, largest, longestRun}
+use Rattle.code.specs.Shapes.{Drop, none, three, Exact, parse-exact, bits-some}
 use Rattle.code.specs.BitLists.{allBits-drop}
 use Rattle.code.specs.Positions.{allBits-counted}
 use Rattle.code.specs.Magnitudes.{magnitude-fits, drop-small}
@@ -181,6 +181,7 @@ module _ (l : List ℕ) (here end d s ones b : ℕ) (end-is : end ≡ length l) 
       go zero e = absurd (h e)
       go (suc m) e = (m, e)
 
+  -- a one goes on with the run, or is one too many
   run-on : (b ≡ 0 → ⊥) → afterSign d s ones (drop here l) ≡ pick (ltb ones longestRun) (afterSign d s (suc ones) (drop (here + 1) l)) runTooLong
   unfolding afterSign
   run-on h =

@@ -1,18 +1,17 @@
 -- Laws that the proofs of reading cite: numbers as the code computes them, and answers as parts of a code give them.
 -- Assumes nothing.
 use mathlib.Core.Path.{_≡_, refl, sym, ap, ap₂, _∙_, subst}
-use mathlib.Core.Bool.{Bool, true, false}
-use mathlib.Core.List.{List, [], _∷_, _++_}
-use Prim.Native.Nat.{ℕ, zero, suc, _+_, _*_, _-_, _/_, _%_, _^_, _<_, _≤_, min}
-use native.Mathlib.Nat.{mod-eq-of-lt, le-trans}
+use mathlib.Core.List.{List}
+use Prim.Native.Nat.{ℕ, zero, suc, _+_, _*_, _-_, _%_, _^_, _<_, _≤_}
+use native.Mathlib.Nat.{mod-eq-of-lt}
 use native.Mathlib.Numerals.{add-one}
 use native.Mathlib.Omega.{arith}
 use lib.IntN.{ℤ, pos, negsuc, negℤ, _-ℤ_, +ℤ-idl}
 use mir.Syntax.{w32}
 use mir.Val.{toZ, ofZ, SFits}
 use mir.ValLaws.{toZ-pos, toZ-ofZ}
-use Rattle.ground.specs.Paper.{accepted, refused}
-use lib.ListN.{length, length-take, length-drop, take, drop, getD}
+use Rattle.ground.specs.Paper.{accepted}
+use lib.ListN.{length, length-drop, take, drop, getD}
 use lib.Seq.{getD-drop, take-suc, length-take-le}
 use lib.Pow.{pow-pos, pow-mono}
 use Rattle.code.specs.Meaning.{counted, fromBits, filled, signed, largest}
@@ -62,6 +61,7 @@ zero-less : (m : ℕ) → pos 0 -ℤ pos m ≡ negℤ (pos m)
 zero-less zero = refl
 zero-less (suc m) = +ℤ-idl (negsuc m)
 
+-- nothing less a magnitude as the code computes it
 minus-is : (m : ℕ) → m ≤ largest → pos 0 -ℤ toZ w32 m ≡ negℤ (pos m)
 minus-is m h = ap (λ (z : ℤ). pos 0 -ℤ z) (toZ-pos w32 m (omega arith)) ∙ zero-less m
 
@@ -70,6 +70,7 @@ negated-fits : (m : ℕ) → m ≤ largest → SFits w32 (negℤ (pos m))
 negated-fits zero h = record { sfits = omega arith }
 negated-fits (suc m) h = record { sfits = omega arith }
 
+-- and it fits an i32
 pub minus-fits : (m : ℕ) → m ≤ largest → SFits w32 (pos 0 -ℤ toZ w32 m)
 minus-fits m h = subst (SFits w32) (sym (minus-is m h)) (negated-fits m h)
 

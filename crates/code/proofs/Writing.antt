@@ -2,31 +2,30 @@
 -- Assumes nothing.
 use mathlib.Core.Path.{_≡_, refl, sym, ap, ap₂, _∙_, subst}
 use mathlib.Core.Bool.{Bool, true, false, _&&_}
-use mathlib.Core.List.{List, [], _∷_, _++_, append-assoc, append-nil}
+use mathlib.Core.List.{List, [], _∷_, _++_, append-assoc}
 use Prim.Native.Nat.{ℕ, zero, suc, _+_, _*_, _-_, _/_, _%_, _^_, _<_, _≤_}
-use native.Mathlib.Nat.{mod-eq-of-lt, mod-lt, suc-add, add-suc, zero-add, pow-suc, mul-assoc, div-eq-of-lt}
+use native.Mathlib.Nat.{mod-eq-of-lt, mod-lt, suc-add, zero-add, pow-suc}
 use native.Mathlib.Numerals.{add-one}
 use native.Mathlib.Omega.{arith}
-use lib.IntN.{ℤ, pos, negsuc, negℤ, natAbs, _-ℤ_}
+use lib.IntN.{ℤ, pos, negsuc, natAbs, _-ℤ_}
 use lib.Signed.{ltZ, nonNeg}
 use lib.Count.{leadingZeros, leading-top}
-use lib.ListN.{length, length-append, length-drop, take, drop, getD, set, replicate}
-use lib.Seq.{set-at, set-append-left, paste, paste-suc, paste-zero, getD-drop}
-use lib.Pow.{pow-pos, pow-mono, pow-add, split, ones-lt, shl-lt}
-use lib.Arith.{digits-lt}
-use lib.Dec.{T, ltb, leb, eqb}
+use lib.ListN.{length, getD, set, replicate}
+use lib.Seq.{set-at, set-append-left, paste, paste-suc}
+use lib.Pow.{pow-pos, pow-mono, split, ones-lt}
+use lib.Dec.{T, ltb, leb}
 use borrow.Author.Tests.{lt-ltb, le-ltb, le-leb, lt-leb, ltb-true, ltb-false, leb-true}
 use mir.Syntax.{w32, w64}
 use mir.Val.{toZ, ofZ, SFits, Fits}
 use mir.ValLaws.{toZ-ofZ}
 use Rattle.ground.specs.Choice.{pick}
-use Rattle.ground.specs.Paper.{Paper, accepted, refused}
+use Rattle.ground.specs.Paper.{accepted, refused}
 use Rattle.ground.specs.Bits.{toBits, bitsOf}
-use Rattle.code.specs.Meaning.{Shape, nought, small, mid, big, bits, coded, shapeOf, bigOf, leading, leadingIn, leastCoded, signOf, counted, largest, longestRun, toByteEnd, padded, bytesFrom, bytesWith, codeOf, codeFits, inRule, dropTaken, packMeans, packLeaves}
+use Rattle.code.specs.Meaning.{nought, small, mid, bits, coded, shapeOf, bigOf, leading, leastCoded, signOf, counted, largest, longestRun, toByteEnd, padded, bytesFrom, bytesWith, codeOf, codeFits, inRule, dropTaken}
 use Rattle.code.specs.BitLists.{length-toBits, length-bitsOf, toBits-join, toBits-ones, toBits-zeros}
 use Rattle.code.specs.Positions.{length-counted, getD-toBits, allBytes, bytes-back}
-use Rattle.code.specs.Magnitudes.{leading-is, leading-bounds, exponent-lt, high-lt, field-lt, drop-small}
-use Rattle.code.specs.Shapes.{Drop, none, three}
+use Rattle.code.specs.Magnitudes.{leading-is, exponent-lt, high-lt, field-lt, drop-small}
+use Rattle.code.specs.Shapes.{Drop}
 use Rattle.code.specs.Steps.{Holds, byteBits, PlacePromise, placeMeans, placeLeaves}
 use Rattle.code.specs.Promise.{PackPromise}
 use Rattle.code.specs.declared.Packed.{Packed}
@@ -43,9 +42,11 @@ widened (negsuc n) f = record { sfits = omega (arith, f .sfits) }
 abbrev pub asWide : ℤ → ℤ
 asWide v = toZ w64 (ofZ w64 (toZ w32 (ofZ w32 v)))
 
+-- is the number itself
 as-wide : (v : ℤ) → SFits w32 v → asWide v ≡ v
 as-wide v f = ap (λ (z : ℤ). toZ w64 (ofZ w64 z)) (toZ-ofZ w32 v f) ∙ toZ-ofZ w64 v (widened v f)
 
+-- widening loses nothing
 pub cast-fits : (v : ℤ) → SFits w32 v → SFits w64 (toZ w32 (ofZ w32 v))
 cast-fits v f = subst (SFits w64) (sym (toZ-ofZ w32 v f)) (widened v f)
 
@@ -64,6 +65,7 @@ less-negative : (n : ℕ) → pos 0 -ℤ negsuc n ≡ pos (suc n)
 less-negative n = ap pos (zero-add (suc n))
 
 module _ (v : ℤ) (f : SFits w32 v) where
+  -- a negative number, and what is left of nothing less it
   negated : ltZ (asWide v) (pos 0) ≡ true → (n : ℕ) × (v ≡ negsuc n) × (pos 0 -ℤ asWide v ≡ pos (suc n)) × (n < 2 ^ 31)
   negated t =
       let o = negative v (subst (λ (z : ℤ). ltZ z (pos 0) ≡ true) (as-wide v f) t) in (
@@ -78,6 +80,7 @@ module _ (v : ℤ) (f : SFits w32 v) where
       let o = negated t in
       subst (SFits w64) (sym (o .2)) (record { sfits = omega (arith, o .3) })
 
+  -- the negation as 64 bits hold it
   negated-back : (t : ltZ (asWide v) (pos 0) ≡ true) → toZ w64 (ofZ w64 (pos 0 -ℤ asWide v)) ≡ pos (suc (negated t .0))
   negated-back t = toZ-ofZ w64 (pos 0 -ℤ asWide v) (negated-fits t) ∙ negated t .2
 
@@ -122,6 +125,7 @@ leading-zeros m a b =
     let top : j < 2 * longestRun + 3 = exponent-lt j (2 * longestRun + 3) (o .2) (omega arith) in
     (e ∙ sym (leading-is 31 j m (omega arith) (o .2) (o .3)), omega arith, omega arith)
 
+-- a big magnitude has a leading one
 pub leading-zeros-few : (m : ℕ) → 32 ≤ m → m ≤ largest → leadingZeros 32 m ≤ 31
 leading-zeros-few m a b = let o = leading-top 32 m (omega arith) (omega arith) in omega (arith, o .1)
 
@@ -131,9 +135,11 @@ wide-power k h =
     let q : 1 * 2 ^ k < 2 ^ 64 = omega (arith, pow-mono {i = k} {j = 40} h) in
     mod-eq-of-lt q ∙ omega arith
 
+-- one can be taken from a power of two
 pub ones-positive : (k : ℕ) → k ≤ 30 → 1 ≤ 1 * 2 ^ k % 2 ^ 64
 ones-positive k h = subst (λ (n : ℕ). 1 ≤ n) (sym (wide-power k (omega arith))) (pow-pos k)
 
+-- a power of two less one, as the code computes it
 pub ones-are : (k : ℕ) → k ≤ 30 → (1 * 2 ^ k % 2 ^ 64 - 1 ≡ 2 ^ k - 1) × (1 * 2 ^ k % 2 ^ 64 - 1 < 2 ^ k)
 ones-are k h =
     let e = ap (λ (n : ℕ). n - 1) (wide-power k (omega arith)) in
@@ -149,6 +155,7 @@ join-is number count more width a b h =
     let f = ap (λ (n : ℕ). n + more) e in
     (f, subst (λ (n : ℕ). n < 2 ^ (count + width)) (sym f) whole)
 
+-- and in 64 bits
 pub join-fits : (number count more width : ℕ) → number < 2 ^ count → more < 2 ^ width → count + width ≤ 40
     → Fits w64 (number * 2 ^ width % 2 ^ 64 + more)
 join-fits number count more width a b h =
@@ -202,18 +209,22 @@ held-as {number} {count} h e = subst (Holds number count) e h
 
 -- ---- the shape of a magnitude, where the tests say which
 
+-- a magnitude under the least coded one
 pub shape-nought : (d s m : ℕ) → m < leastCoded d → shapeOf d s m ≡ nought
 unfolding shapeOf
 shape-nought d s m h = rw (lt-ltb m (leastCoded d) h)
 
+-- a magnitude under 16
 pub shape-small : (d s m : ℕ) → leastCoded d ≤ m → m < 16 → shapeOf d s m ≡ small s (m / 2 ^ d)
 unfolding shapeOf
 shape-small d s m a h = rw (le-ltb m (leastCoded d) a, lt-ltb m 16 h)
 
+-- a magnitude under 32
 pub shape-mid : (d s m : ℕ) → leastCoded d ≤ m → 16 ≤ m → m < 32 → shapeOf d s m ≡ mid s (m % 16 / 2 ^ (1 + d))
 unfolding shapeOf
 shape-mid d s m a b h = rw (le-ltb m (leastCoded d) a, le-ltb m 16 b, lt-ltb m 32 h)
 
+-- a magnitude from 32 on
 pub shape-big : (d s m : ℕ) → leastCoded d ≤ m → 16 ≤ m → 32 ≤ m → shapeOf d s m ≡ bigOf d s (leading m) m
 unfolding shapeOf
 shape-big d s m a b h = rw (le-ltb m (leastCoded d) a, le-ltb m 16 b, le-ltb m 32 h)
@@ -241,9 +252,11 @@ module _ (byte place bit unit : ℕ) (small-byte : byte < 256) (in-byte : place 
       let e : 2 ^ (place + 1) ≡ 2 ^ place * 2 = ap (λ (n : ℕ). 2 ^ n) (add-one place) ∙ pow-suc 2 place in
       omega arith
 
+  -- the bits after the place
   low-lt : byte % 2 ^ (7 - place) < 2 ^ (7 - place)
   low-lt = mod-lt byte (pow-pos (7 - place))
 
+  -- the byte with the bit put is a byte
   whole-lt : (byte / 2 ^ (7 - place) / 2 * 2 + bit) * 2 ^ (7 - place) + byte % 2 ^ (7 - place) < 256
   whole-lt = field-lt (place + 1) (7 - place) 8 top-lt low-lt (omega arith)
 
@@ -367,6 +380,7 @@ big-code-holds d s m least number count e a b h held = held-as held (ap (bits d)
 pub small-field-lt : (d m : ℕ) → Drop d → m < 16 → m / 2 ^ d < 2 ^ (4 - d)
 small-field-lt d m dr h = high-lt (4 - d) d 4 h (omega (arith, drop-small dr))
 
+-- and the field of a mid magnitude
 pub mid-field-lt : (d m : ℕ) → Drop d → m % 16 / 2 ^ (1 + d) < 2 ^ (3 - d)
 mid-field-lt d m dr = high-lt (3 - d) (1 + d) 4 (mod-lt m (pow-pos 4)) (omega (arith, drop-small dr))
 
@@ -452,6 +466,7 @@ pub rule-drop : (a b : Bool) → (a && b) ≡ true → a ≡ true
 rule-drop true b t = refl
 rule-drop false b t = t
 
+-- the magnitude of a number inside the rule
 pub rule-fits : (a : Bool) (m : ℕ) → (a && leb m largest) ≡ true → m ≤ largest
 rule-fits true m t = leb-true m largest t
 rule-fits false m t = absurd (Rattle.code.specs.Shapes.false-true t)

@@ -1,6 +1,6 @@
 -- Packed codes, in document 01's words and order: a number has a shape, a shape has bits, bits are parsed to a shape, a shape has a value.
 -- Assumes nothing.
-use mathlib.Core.Bool.{Bool, true, false, _&&_}
+use mathlib.Core.Bool.{Bool, true, _&&_}
 use mathlib.Core.List.{List, [], _∷_, _++_}
 use Prim.Native.Nat.{ℕ, zero, suc, _+_, _*_, _-_, _/_, _%_, _^_}
 use lib.IntN.{ℤ, pos, negsuc, negℤ, natAbs}

@@ -12,13 +12,13 @@ ghost use Rattle.code.specs.Shapes.{Drop};
 ghost use Rattle.code.specs.Steps.{Holds, PlacePromise, byteBits};
 
 // Bits held in a number, the first counting most.
-pub struct Held {
-    pub number: u64,
-    pub count: u32,
+pub(crate) struct Held {
+    pub(crate) number: u64,
+    pub(crate) count: u32,
 }
 
 // The magnitude of a number, at every i32.
-pub fn magnitude(v: i32) -> u32
+pub(crate) fn magnitude(v: i32) -> u32
     ensures { λ r. ⌜ r ≡ natAbs v ⌝ }
 {
     let w = v as i64;
@@ -26,14 +26,14 @@ pub fn magnitude(v: i32) -> u32
 }
 
 // The sign bit of a number.
-pub fn sign(v: i32) -> u32
+pub(crate) fn sign(v: i32) -> u32
     ensures { λ r. ⌜ (r ≡ signOf v) × (r < 2) ⌝ }
 {
     if v < 0 { 1 } else { 0 }
 }
 
 // The code of a sign and a magnitude inside the rule.
-pub fn code(drop: u32, sign: u32, m: u32) -> Held
+pub(crate) fn code(drop: u32, sign: u32, m: u32) -> Held
     requires { ⌜ Drop drop × (sign < 2) × (m ≤ largest) ⌝ }
     ensures { λ r. ⌜ Holds (r .number) (r .count) (bits drop (shapeOf drop sign m)) ⌝ }
 {
@@ -130,7 +130,7 @@ fn join(number: u64, count: u32, more: u64, width: u32) -> u64
 }
 
 // Bits put at a position, the rest of their last byte set to 0; or nothing, where they do not fit.
-pub fn place(buffer: &mut [u8], at: u64, number: u64, count: u32) -> Packed
+pub(crate) fn place(buffer: &mut [u8], at: u64, number: u64, count: u32) -> Packed
     requires { ⌜ (number < 2 ^ count) × (count ≤ 33) ⌝ }
     ensures { λ r. ⌜ PlacePromise (now (buffer .entry)) at (toBits count number) r (now (buffer .exit)) ⌝ }
 {

@@ -1,10 +1,6 @@
 -- `code::read::fill` meets its contract: the shifts lose nothing.
 -- Assumes nothing.
-use mathlib.Core.Path.{sym, ap}
-use Prim.Native.Nat.{ℕ}
-use native.Mathlib.Omega.{arith}
 use borrow.Author.Needs.{needs}
-use Rattle.code.specs.Meaning.{filled}
 use Rattle.code.proofs.Reading.{fill-shifts, fill-none, shift-positive}
 use Rattle.code.proofs.read.fill.Statement.{statement}
 use Rattle.code.proofs.read.fill.Tie as tie
