@@ -3,7 +3,7 @@
 use mathlib.Core.Path.{_≡_, refl, sym, ap, ap₂, _∙_, subst}
 use mathlib.Core.List.{List}
 use Prim.Native.Nat.{ℕ, zero, suc, _+_, _*_, _-_, _%_, _^_, _<_, _≤_}
-use native.Mathlib.Nat.{mod-eq-of-lt}
+use native.Mathlib.Nat.{mod-eq-of-lt, one-mul}
 use native.Mathlib.Numerals.{add-one}
 use native.Mathlib.Omega.{arith}
 use lib.IntN.{ℤ, pos, negsuc, negℤ, _-ℤ_, +ℤ-idl}
@@ -13,7 +13,7 @@ use mir.ValLaws.{toZ-pos, toZ-ofZ}
 use Rattle.ground.specs.Paper.{accepted}
 use lib.ListN.{length, length-drop, take, drop, getD}
 use lib.Seq.{getD-drop, take-suc, length-take-le}
-use lib.Pow.{pow-pos, pow-mono}
+use lib.Pow.{pow-pos, pow-mono, pow-lt}
 use Rattle.code.specs.Meaning.{counted, fromBits, filled, signed, largest}
 use Rattle.code.specs.Steps.{zeroAnswer}
 use Rattle.code.specs.BitLists.{allBits, allBits-take, allBits-drop, fromBits-lt}
@@ -38,19 +38,20 @@ field-width l at i ok h =
 pub field-small : (l : List ℕ) (at i : ℕ) → allBits l → at + i ≤ length l → i ≤ 16 → fromBits (take i (drop at l)) < 65536
 field-small l at i ok h few = omega (arith, field-width l at i ok h, pow-mono {i = i} {j = 16} few)
 
+-- a power of two as a shift gives it, at any width that holds it
+pub shift-is : (k w : ℕ) → k < w → 1 * 2 ^ k % 2 ^ w ≡ 2 ^ k
+shift-is k w h = ap (λ (n : ℕ). n % 2 ^ w) (one-mul (2 ^ k)) ∙ mod-eq-of-lt (pow-lt h)
+
+-- one can be taken from it
+pub shift-positive : (k w : ℕ) → k < w → 1 ≤ 1 * 2 ^ k % 2 ^ w
+shift-positive k w h = subst (λ (n : ℕ). 1 ≤ n) (sym (shift-is k w h)) (pow-pos k)
+
 -- a field and what is filled in, as shifts give it
 pub fill-shifts : (left x : ℕ) → 0 < left → left < 32 → filled left x < 2 ^ 32
     → x * 2 ^ left % 2 ^ 32 + (1 * 2 ^ (left - 1) % 2 ^ 32 - 1) ≡ filled left x
 fill-shifts left x a b h =
     let p : x * 2 ^ left < 2 ^ 32 = omega arith in
-    let q : 1 * 2 ^ (left - 1) < 2 ^ 32 = omega (arith, pow-mono {i = left - 1} {j = 31} (omega arith)) in
-    ap₂ (λ (m n : ℕ). m + (n - 1)) (mod-eq-of-lt p) (mod-eq-of-lt q) ∙ omega arith
-
--- a power of two as a shift gives it, for one less
-pub shift-positive : (k : ℕ) → k < 32 → 1 ≤ 1 * 2 ^ k % 2 ^ 32
-shift-positive k h =
-    let q : 1 * 2 ^ k < 2 ^ 32 = omega (arith, pow-mono {i = k} {j = 31} (omega arith)) in
-    subst (λ (n : ℕ). 1 ≤ n) (sym (mod-eq-of-lt q)) (omega (arith, pow-pos k))
+    ap₂ (λ (m n : ℕ). m + (n - 1)) (mod-eq-of-lt p) (shift-is (left - 1) 32 (omega arith))
 
 -- a magnitude inside the rule is read back from its bits
 pub plus : (s m : ℕ) → s ≡ 0 → m ≤ largest → toZ w32 m ≡ signed s m

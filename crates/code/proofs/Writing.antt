@@ -26,6 +26,7 @@ use Rattle.code.specs.BitLists.{length-toBits, length-bitsOf, toBits-joi
 use Rattle.code.specs.Positions.{length-counted, getD-toBits, allBytes, bytes-back}
 use Rattle.code.specs.Magnitudes.{leading-is, exponent-lt, high-lt, field-lt, drop-small}
 use Rattle.code.specs.Shapes.{Drop}
+use Rattle.code.proofs.Reading.{shift-is}
 use Rattle.code.specs.Steps.{Holds, byteBits, PlacePromise, placeMeans, placeLeaves}
 use Rattle.code.specs.Promise.{PackPromise}
 use Rattle.code.specs.declared.Packed.{Packed}
@@ -129,20 +130,10 @@ leading-zeros m a b =
 pub leading-zeros-few : (m : ℕ) → 32 ≤ m → m ≤ largest → leadingZeros 32 m ≤ 31
 leading-zeros-few m a b = let o = leading-top 32 m (omega arith) (omega arith) in omega (arith, o .1)
 
--- a power of two as a shift of 64 bits gives it
-wide-power : (k : ℕ) → k ≤ 40 → 1 * 2 ^ k % 2 ^ 64 ≡ 2 ^ k
-wide-power k h =
-    let q : 1 * 2 ^ k < 2 ^ 64 = omega (arith, pow-mono {i = k} {j = 40} h) in
-    mod-eq-of-lt q ∙ omega arith
-
--- one can be taken from a power of two
-pub ones-positive : (k : ℕ) → k ≤ 30 → 1 ≤ 1 * 2 ^ k % 2 ^ 64
-ones-positive k h = subst (λ (n : ℕ). 1 ≤ n) (sym (wide-power k (omega arith))) (pow-pos k)
-
 -- a power of two less one, as the code computes it
 pub ones-are : (k : ℕ) → k ≤ 30 → (1 * 2 ^ k % 2 ^ 64 - 1 ≡ 2 ^ k - 1) × (1 * 2 ^ k % 2 ^ 64 - 1 < 2 ^ k)
 ones-are k h =
-    let e = ap (λ (n : ℕ). n - 1) (wide-power k (omega arith)) in
+    let e = ap (λ (n : ℕ). n - 1) (shift-is k 64 (omega arith)) in
     (e, subst (λ (n : ℕ). n < 2 ^ k) (sym e) (ones-lt k))
 
 -- joined bits lie in their widths together

@@ -83,7 +83,7 @@ pub fn moved_to<'a>(r: Reader<'a>, at: u64) -> Reader<'a>
 
 // A reader made at a position and asked: whoever calls this holds no reader.
 pub fn read_at(bytes: &[u8], at: u64, drop: u8) -> Unpacked
-    ensures { λ r. ⌜ UnpackPromise (now (bytes .entry)) at drop r ⌝ }
+    ensures { λ u. ⌜ UnpackPromise (now (bytes .entry)) at drop u ⌝ }
 {
     next_code(reader_at(bytes, at), drop)
 }

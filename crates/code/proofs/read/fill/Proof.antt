@@ -15,7 +15,7 @@ shl-result-2 : tie.Need-shl-result-2
 shl-result-2 c = search needs
 
 sub-result-2 : tie.Need-sub-result-2
-sub-result-2 c = shift-positive _ (search needs)
+sub-result-2 c = shift-positive _ 32 (search needs)
 
 add-result : tie.Need-add-result
 add-result c = search needs
