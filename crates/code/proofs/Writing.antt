@@ -10,17 +10,18 @@ use native.Mathlib.Omega.{arith}
 use lib.IntN.{ℤ, pos, negsuc, natAbs, _-ℤ_}
 use lib.Signed.{ltZ, nonNeg}
 use lib.Count.{leadingZeros, leading-top}
-use lib.ListN.{length, getD, set, replicate}
-use lib.Seq.{set-at, set-append-left, paste, paste-suc}
+use lib.ListN.{length, take, drop, getD, set, replicate}
+use lib.Seq.{set-at, set-append-left, paste, paste-suc, take-length}
 use lib.Pow.{pow-pos, pow-mono, split, ones-lt}
 use lib.Dec.{T, ltb, leb}
-use borrow.Author.Tests.{lt-ltb, le-ltb, le-leb, lt-leb, ltb-true, ltb-false, leb-true}
+use borrow.Author.Tests.{lt-ltb, le-ltb, le-leb, lt-leb, ltb-true, ltb-false}
 use mir.Syntax.{w32, w64}
 use mir.Val.{toZ, ofZ, SFits, Fits}
 use mir.ValLaws.{toZ-ofZ}
 use Rattle.ground.specs.Choice.{pick}
 use Rattle.ground.specs.Paper.{accepted, refused}
 use Rattle.ground.specs.Bits.{toBits, bitsOf}
+use Rattle.ground.specs.Putting.{put}
 use Rattle.code.specs.Meaning.{nought, small, mid, bits, coded, shapeOf, bigOf, leading, leastCoded, signOf, counted, largest, longestRun, toByteEnd, padded, bytesFrom, bytesWith, codeOf, codeFits, inRule, dropTaken}
 use Rattle.code.specs.BitLists.{length-toBits, length-bitsOf, toBits-join, toBits-ones, toBits-zeros}
 use Rattle.code.specs.Positions.{length-counted, getD-toBits, allBytes, bytes-back}
@@ -318,8 +319,14 @@ put-turn old now last at count number i v fits h inv q e =
 
 -- all bits have been put
 pub put-done : (old now : List ℕ) (at count number i : ℕ) → i ≤ count → count ≤ i → bitsOf now ≡ paste (bitsOf old) at (toBits count number) i
-    → bitsOf now ≡ paste (bitsOf old) at (toBits count number) count
-put-done old now at count number i a b e = let f : i ≡ count = omega arith in e ∙ ap (λ (n : ℕ). paste (bitsOf old) at (toBits count number) n) f
+    → bitsOf now ≡ put (bitsOf old) at (toBits count number)
+put-done old now at count number i a b e =
+    let l : List ℕ = toBits count number in
+    let f : i ≡ length l = omega (arith, length-toBits count number) in
+    e
+    ∙ ap (λ (n : ℕ). paste (bitsOf old) at l n) f
+    ∙ append-assoc (take at (bitsOf old)) (take (length l) l) (drop (at + length l) (bitsOf old))
+    ∙ ap (λ (k : List ℕ). take at (bitsOf old) ++ (k ++ drop (at + length l) (bitsOf old))) (take-length l)
 
 -- ---- the code of a big magnitude
 
@@ -404,19 +411,18 @@ padded-is at number count pad e =
 -- they fit
 pub place-there : (buffer last : List ℕ) (at number count end pad joined : ℕ) → end ≡ length (counted buffer) → at + count ≤ end
     → pad ≡ toByteEnd (at + count) → joined ≡ number * 2 ^ pad + 0 → length last ≡ length buffer → allBytes last
-    → bitsOf last ≡ paste (bitsOf buffer) at (toBits (count + pad) joined) (count + pad)
+    → bitsOf last ≡ put (bitsOf buffer) at (toBits (count + pad) joined)
     → PlacePromise buffer at (toBits count number) (Next (at + count)) last
-place-there buffer last at number count end pad joined e h p q same ok put =
+place-there buffer last at number count end pad joined e h p q same ok wrote =
     let l : List ℕ = toBits count number in
     let t : leb (at + length l) (length (counted buffer)) ≡ true = le-leb (at + length l) (length (counted buffer)) (omega (arith, length-toBits count number)) in
     let code : toBits (count + pad) joined ≡ padded at l = ap (toBits (count + pad)) q ∙ padded-is at number count pad p in
-    let long : count + pad ≡ length (padded at l) = sym (length-toBits (count + pad) joined) ∙ ap length code in
     record {
       answer =
           sym (ap (λ (b : Bool). pick b (accepted (at + length l)) (refused 3)) t ∙ ap (λ (n : ℕ). accepted (at + n)) (length-toBits count number));
       memory =
           sym (bytes-back last ok)
-          ∙ ap₂ (λ (n : ℕ) (k : List ℕ). bytesFrom n k) same (put ∙ ap₂ (λ (k : List ℕ) (n : ℕ). paste (bitsOf buffer) at k n) code long)
+          ∙ ap₂ (λ (n : ℕ) (k : List ℕ). bytesFrom n k) same (wrote ∙ ap (put (bitsOf buffer) at) code)
           ∙ sym (ap (λ (b : Bool). pick b (bytesWith buffer at l) buffer) t);
     }
 
@@ -427,17 +433,17 @@ pub pack-is : (buffer last : List ℕ) (at : ℕ) (v : ℤ) (d w s m number coun
     → m ≡ natAbs v → s ≡ signOf v → w ≡ d → (dropTaken d && leb m largest) ≡ true
     → Holds number count (bits w (shapeOf w s m)) → PlacePromise buffer at (toBits count number) r last
     → PackPromise buffer at v d r last
-pack-is buffer last at v d w s m number count r em es ew t held put =
+pack-is buffer last at v d w s m number count r em es ew t held placed =
     let code : toBits count number ≡ codeOf d v
     = held .bits-are ∙ ap (λ (n : ℕ). bits n (shapeOf n s m)) ew ∙ ap₂ (λ (a b : ℕ). bits d (shapeOf d a b)) es em in
     let rule : inRule v d ≡ true = ap (λ (n : ℕ). dropTaken d && leb n largest) (sym em) ∙ t in
     record {
       answer =
-          put .answer
+          placed .answer
           ∙ ap (placeMeans buffer at) code
           ∙ sym (ap (λ (b : Bool). pick b (placeMeans buffer at (codeOf d v)) (refused 8)) rule);
       memory =
-          put .memory
+          placed .memory
           ∙ ap (placeLeaves buffer at) code
           ∙ sym (ap (λ (b : Bool). pick (b && codeFits buffer at v d) (bytesWith buffer at (codeOf d v)) buffer) rule);
     }
@@ -451,13 +457,3 @@ pack-refuses buffer at v d m em t =
       answer = sym (ap (λ (b : Bool). pick b (placeMeans buffer at (codeOf d v)) (refused 8)) rule);
       memory = sym (ap (λ (b : Bool). pick (b && codeFits buffer at v d) (bytesWith buffer at (codeOf d v)) buffer) rule);
     }
-
--- both tests that make up the rule
-pub rule-drop : (a b : Bool) → (a && b) ≡ true → a ≡ true
-rule-drop true b t = refl
-rule-drop false b t = t
-
--- the magnitude of a number inside the rule
-pub rule-fits : (a : Bool) (m : ℕ) → (a && leb m largest) ≡ true → m ≤ largest
-rule-fits true m t = leb-true m largest t
-rule-fits false m t = absurd (Rattle.code.specs.Shapes.false-true t)

@@ -7,12 +7,13 @@ use Prim.Native.Nat.{ℕ, zero, suc, _+_, _-_, _^_, _≤_}
 use native.Mathlib.Omega.{arith}
 use lib.IntN.{ℤ, natAbs}
 use lib.ListN.{length, length-append, length-take, length-drop, take, drop, replicate, length-replicate, take-append-drop}
-use lib.Seq.{take-take, take-at, drop-at, take-length, length-paste, length-take-le}
+use lib.Seq.{take-take, take-at, drop-at, length-take-le}
 use lib.Dec.{leb}
 use borrow.Author.Tests.{le-leb, leb-true}
 use Rattle.ground.specs.Choice.{pick}
 use Rattle.ground.specs.Paper.{Paper, accepted, refused}
 use Rattle.ground.specs.Bits.{toBits, bitsOf}
+use Rattle.ground.specs.Putting.{length-put}
 use Rattle.code.specs.Meaning.{Shape, nought, small, mid, big, Parsed, found, ranOut, redundantZero, runTooLong, Taken, bits, value, sign, magnitude, shapeOfNumber, codeOf, decoded, counted, parse, parseAt, answerOf, unpackMeans, inRule, codeFits, packMeans, packLeaves, putAt, padded, toByteEnd, bytesWith, dropTaken, largest}
 use Rattle.code.specs.BitLists.{allBits, allBits-append, allBits-take, allBits-drop, allBits-toBits, allBits-bitsOf, length-bitsOf}
 use Rattle.code.specs.Positions.{length-counted, allBits-counted, bits-back, length-bytesFrom}
@@ -140,34 +141,42 @@ module _ (buffer : List ℕ) (at : ℕ) (code : List ℕ) (room : at + length co
   put-bits =
       let old : List ℕ = bitsOf buffer in
       let new : List ℕ = padded at code in
-      let fits : at + length new ≤ length old = padded-room buffer at code room in
       bits-back (length buffer) (putAt old at code)
-      (length-paste old at new (length new) fits (omega arith) ∙ length-bitsOf buffer)
-      (allBits-append (take at old ++ take (length new) new) (drop (at + length new) old)
-      (allBits-append (take at old) (take (length new) new) (allBits-take at old (allBits-bitsOf buffer))
-      (allBits-take (length new) new (allBits-append code (replicate (toByteEnd (at + length code)) 0) fine (allBits-zeros (toByteEnd (at + length code))))))
-      (allBits-drop (at + length new) old (allBits-bitsOf buffer)))
+      (length-put old at new (padded-room buffer at code room) ∙ length-bitsOf buffer)
+      (allBits-append (take at old) (new ++ drop (at + length new) old) (allBits-take at old (allBits-bitsOf buffer))
+      (allBits-append new (drop (at + length new) old)
+      (allBits-append code (replicate (toByteEnd (at + length code)) 0) fine (allBits-zeros (toByteEnd (at + length code))))
+      (allBits-drop (at + length new) old (allBits-bitsOf buffer))))
+
+  -- the bits before the code are as many as its position says
+  front : length (take at (bitsOf buffer)) ≡ at
+  front = length-take-le at (bitsOf buffer) (omega (arith, padded-room buffer at code room))
 
   -- "changes no other bit": those before it
   pub put-keeps : take at (bitsOf (bytesWith buffer at code)) ≡ take at (bitsOf buffer)
   put-keeps =
       let old : List ℕ = bitsOf buffer in
       let new : List ℕ = padded at code in
-      ap (take at) (put-bits ∙ append-assoc (take at old) (take (length new) new) (drop (at + length new) old))
-      ∙ take-at (take at old) (take (length new) new ++ drop (at + length new) old) at
-      (length-take-le at old (omega (arith, padded-room buffer at code room)))
+      ap (take at) put-bits ∙ take-at (take at old) (new ++ drop (at + length new) old) at front
 
-  -- and the code stands at its place
+  -- and those after its last byte
+  pub put-keeps-after : drop (at + length (padded at code)) (bitsOf (bytesWith buffer at code)) ≡ drop (at + length (padded at code)) (bitsOf buffer)
+  put-keeps-after =
+      let old : List ℕ = bitsOf buffer in
+      let new : List ℕ = padded at code in
+      ap (drop (at + length new)) (put-bits ∙ sym (append-assoc (take at old) new (drop (at + length new) old)))
+      ∙ drop-at (take at old ++ new) (drop (at + length new) old) (at + length new)
+      (length-append (take at old) new ∙ ap (λ (n : ℕ). n + length new) front)
+
+  -- the code stands at its place
   pub put-stands : bitsAt (bytesWith buffer at code) at (length code) ≡ code
   put-stands =
       let old : List ℕ = bitsOf buffer in
       let new : List ℕ = padded at code in
       let zeros : List ℕ = replicate (toByteEnd (at + length code)) 0 in
-      ap (λ (k : List ℕ). take (length code) (drop at k)) (put-bits ∙ append-assoc (take at old) (take (length new) new) (drop (at + length new) old))
+      ap (λ (k : List ℕ). take (length code) (drop at k)) put-bits
       ∙ ap (take (length code))
-      (drop-at (take at old) (take (length new) new ++ drop (at + length new) old) at (length-take-le at old (omega (arith, padded-room buffer at code room)))
-      ∙ ap (λ (k : List ℕ). k ++ drop (at + length new) old) (take-length new)
-      ∙ append-assoc code zeros (drop (at + length new) old))
+      (drop-at (take at old) (new ++ drop (at + length new) old) at front ∙ append-assoc code zeros (drop (at + length new) old))
       ∙ take-at code (zeros ++ drop (at + length new) old) (length code) refl
 
   -- as many bits count as before

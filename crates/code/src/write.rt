@@ -5,8 +5,8 @@ ghost use mathlib.Core.Path.{_≡_};
 ghost use Prim.Native.Nat.{_+_, _-_, _*_, _/_, _%_, _^_, _<_, _≤_};
 ghost use lib.IntN.{natAbs};
 ghost use lib.ListN.{length, set};
-ghost use lib.Seq.{paste};
 ghost use Rattle.ground.specs.Bits.{toBits, bitsOf};
+ghost use Rattle.ground.specs.Putting.{put as putOver};
 ghost use Rattle.code.specs.Meaning.{signOf, leastCoded, leading as leadingPlace, shapeOf, bits, coded as codedBits, bigOf, counted, toByteEnd, bytesWith, largest, longestRun};
 ghost use Rattle.code.specs.Shapes.{Drop};
 ghost use Rattle.code.specs.Steps.{Holds, PlacePromise, byteBits};
@@ -157,7 +157,7 @@ fn to_byte_end(at: u64) -> u32
 // Bits put one after the other.
 fn put(buffer: &mut [u8], at: u64, number: u64, count: u32)
     requires { ⌜ (at + count ≤ length (counted (now buffer))) × (count ≤ 40) ⌝ }
-    ensures { λ _. ⌜ bitsOf (now (buffer .exit)) ≡ paste (bitsOf (now (buffer .entry))) at (toBits count number) count ⌝ }
+    ensures { λ _. ⌜ bitsOf (now (buffer .exit)) ≡ putOver (bitsOf (now (buffer .entry))) at (toBits count number) ⌝ }
 {
     let mut i: u32 = 0;
     while i < count {

@@ -6,7 +6,9 @@ use mir.Syntax.{w32}
 use mir.ValLaws.{toZ-ofZ}
 use Rattle.code.specs.Meaning.{dropTaken, signOf}
 use Rattle.code.specs.Shapes.{Drop, drop-of}
-use Rattle.code.proofs.Writing.{pack-is, pack-refuses, rule-drop, rule-fits}
+use Rattle.code.proofs.Writing.{pack-is, pack-refuses}
+use borrow.Author.Tests.{leb-true}
+use Rattle.ground.specs.Questions.{both-hold}
 use borrow.Author.Needs.{needs}
 use Rattle.code.proofs.pack.Statement.{statement}
 use Rattle.code.proofs.pack.Tie as tie
@@ -27,7 +29,7 @@ code-requires : tie.Need-code-requires
 code-requires c κs =
     let a = c .before .before .before .before .before .before .args in
     let t = sym (c .before .before .before .in-rule .ensures) ∙ c .before .before .if1 .taken in
-    (subst Drop (sym (c .before .wide .ensures)) (drop-of (a .drop) (rule-drop _ _ t)), c .sign .ensures .1, rule-fits (dropTaken (a .drop)) _ t)
+    (subst Drop (sym (c .before .wide .ensures)) (drop-of (a .drop) (both-hold {a = dropTaken (a .drop)} t .0)), c .sign .ensures .1, leb-true _ _ (both-hold {a = dropTaken (a .drop)} t .1))
 
 place-requires : tie.Need-place-requires
 place-requires c κs = search needs
