@@ -47,7 +47,7 @@ pub shift-positive : (k w : ℕ) → k < w → 1 ≤ 1 * 2 ^ k % 2 ^ w
 shift-positive k w h = subst (λ (n : ℕ). 1 ≤ n) (sym (shift-is k w h)) (pow-pos k)
 
 -- a field and what is filled in, as shifts give it
-pub fill-shifts : (left x : ℕ) → 0 < left → left < 32 → filled left x < 2 ^ 32
+pub fill-shifts : (left x : ℕ) → 0 < left → left < 32 → filled left x < 2 ^ 31
     → x * 2 ^ left % 2 ^ 32 + (1 * 2 ^ (left - 1) % 2 ^ 32 - 1) ≡ filled left x
 fill-shifts left x a b h =
     let p : x * 2 ^ left < 2 ^ 32 = omega arith in

@@ -236,7 +236,7 @@ byte-parts h c l place a b e =
     ∙ ap (λ (n : ℕ). toBits place h ++ (n ∷ [])) (ap (λ (n : ℕ). n % 2) (native.Mathlib.Nat.div-one c) ∙ mod-eq-of-lt b))
     ∙ append-assoc (toBits place h) (c ∷ []) (toBits (7 - place) l)
 
-module _ (byte place bit unit : ℕ) (small-byte : byte < 256) (in-byte : place < 8) (is-bit : bit < 2) (unit-is : unit ≡ 2 ^ (7 - place)) where
+module _ (byte place bit unit top : ℕ) (small-byte : byte < 256) (in-byte : place < 8) (is-bit : bit < 2) (unit-is : unit ≡ 2 ^ (7 - place)) (top-is : top ≡ byte / unit / 2 * 2 + bit) where
   -- the bits down to the place, with the bit put
   top-lt : byte / 2 ^ (7 - place) / 2 * 2 + bit < 2 ^ (place + 1)
   top-lt =
@@ -252,15 +252,12 @@ module _ (byte place bit unit : ℕ) (small-byte : byte < 256) (in-byte : place 
   whole-lt : (byte / 2 ^ (7 - place) / 2 * 2 + bit) * 2 ^ (7 - place) + byte % 2 ^ (7 - place) < 256
   whole-lt = field-lt (place + 1) (7 - place) 8 top-lt low-lt (omega arith)
 
-  pub put-lt : (byte / unit / 2 * 2 + bit) * unit + byte % unit < 256
-  put-lt = rw unit-is whole-lt
+  pub put-lt : top * unit + byte % unit < 256
+  put-lt = rw (top-is, unit-is) whole-lt
 
-  pub top-small : byte / unit / 2 * 2 + bit < 256
-  top-small = rw unit-is (omega (arith, top-lt, pow-mono {i = place + 1} {j = 8} (omega arith)))
-
-  pub put-bits : byteBits ((byte / unit / 2 * 2 + bit) * unit + byte % unit) ≡ set (byteBits byte) place bit
+  pub put-bits : byteBits (top * unit + byte % unit) ≡ set (byteBits byte) place bit
   put-bits =
-      rw unit-is
+      rw (top-is, unit-is)
       (let q : ℕ = byte / 2 ^ (7 - place) in
       let h : ℕ = q / 2 in
       let whole : byte ≡ (h * 2 + q % 2) * 2 ^ (7 - place) + byte % 2 ^ (7 - place)
@@ -394,11 +391,6 @@ place-short buffer at number count end e h =
       answer = sym (ap (λ (b : Bool). pick b (accepted (at + length (toBits count number))) (refused 3)) t);
       memory = sym (ap (λ (b : Bool). pick b (bytesWith buffer at (toBits count number)) buffer) t);
     }
-
--- the room that a code and the rest of its last byte take
-pub pad-fits : (buffer : List ℕ) (at count pad : ℕ) → at + count ≤ length (counted buffer) → pad ≡ toByteEnd (at + count)
-    → at + (count + pad) ≤ length (counted buffer)
-pad-fits buffer at count pad h e = omega (arith, length-counted buffer)
 
 -- a code's number with room for the rest of its last byte
 padded-is : (at number count pad : ℕ) → pad ≡ toByteEnd (at + count)

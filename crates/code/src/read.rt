@@ -188,7 +188,7 @@ fn field(bytes: &[u8], at: u64, width: u32) -> u32
 
 // A field with 0 for the first bit left out and 1 for the rest.
 fn fill(x: u32, left: u32) -> u32
-    requires { ⌜ (left < 32) × (filled left x < 2 ^ 32) ⌝ }
+    requires { ⌜ (left < 32) × (filled left x < 2 ^ 31) ⌝ }
     ensures { λ r. ⌜ r ≡ filled left x ⌝ }
 {
     if left == 0 {

@@ -197,5 +197,13 @@ fn with_bit(byte: u32, place: u32, bit: u32) -> u32
     ensures { λ r. ⌜ (byteBits r ≡ set (byteBits byte) place bit) × (r < 256) ⌝ }
 {
     let unit = power(7 - place);
-    (byte / unit / 2 * 2 + bit) * unit + byte % unit
+    replaced(byte / unit, bit) * unit + byte % unit
+}
+
+// Bits with another last one.
+fn replaced(high: u32, bit: u32) -> u32
+    requires { ⌜ (high < 256) × (bit < 2) ⌝ }
+    ensures { λ r. ⌜ r ≡ high / 2 * 2 + bit ⌝ }
+{
+    high / 2 * 2 + bit
 }

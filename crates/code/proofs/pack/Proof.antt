@@ -4,11 +4,12 @@ use mathlib.Core.Path.{sym, ap, _∙_, subst}
 use lib.IntN.{natAbs}
 use mir.Syntax.{w32}
 use mir.ValLaws.{toZ-ofZ}
-use Rattle.code.specs.Meaning.{dropTaken, signOf}
+use Rattle.code.specs.Meaning.{dropTaken, largest, signOf}
 use Rattle.code.specs.Shapes.{Drop, drop-of}
 use Rattle.code.proofs.Writing.{pack-is, pack-refuses}
 use borrow.Author.Tests.{leb-true}
 use Rattle.ground.specs.Questions.{both-hold}
+use native.Mathlib.Omega.{arith}
 use borrow.Author.Needs.{needs}
 use Rattle.code.proofs.pack.Statement.{statement}
 use Rattle.code.proofs.pack.Tie as tie
@@ -28,8 +29,9 @@ sign-requires c κs = search needs
 code-requires : tie.Need-code-requires
 code-requires c κs =
     let a = c .before .before .before .before .before .before .args in
-    let t = sym (c .before .before .before .in-rule .ensures) ∙ c .before .before .if1 .taken in
-    (subst Drop (sym (c .before .wide .ensures)) (drop-of (a .drop) (both-hold {a = dropTaken (a .drop)} t .0)), c .sign .ensures .1, leb-true _ _ (both-hold {a = dropTaken (a .drop)} t .1))
+    let t = both-hold {a = dropTaken (a .drop)} (sym (c .before .before .before .in-rule .ensures) ∙ c .before .before .if1 .taken) in
+    let small = leb-true (c .before .before .before .before .magnitude .result) largest (t .1) in
+    (subst Drop (sym (c .before .wide .ensures)) (drop-of (a .drop) (t .0)), c .sign .ensures .1, omega arith)
 
 place-requires : tie.Need-place-requires
 place-requires c κs = search needs

@@ -1,5 +1,7 @@
 -- `code::read::fill` meets its contract: the shifts lose nothing.
 -- Assumes nothing.
+use Prim.Native.Nat.{_-_}
+use native.Mathlib.Omega.{arith}
 use borrow.Author.Needs.{needs}
 use Rattle.code.proofs.Reading.{fill-shifts, fill-none, shift-positive}
 use Rattle.code.proofs.read.fill.Statement.{statement}
@@ -15,7 +17,9 @@ shl-result-2 : tie.Need-shl-result-2
 shl-result-2 c = search needs
 
 sub-result-2 : tie.Need-sub-result-2
-sub-result-2 c = shift-positive _ 32 (search needs)
+sub-result-2 c =
+    let a = c .before .args in
+    omega (arith, shift-positive (a .left - 1) 32 (omega arith))
 
 add-result : tie.Need-add-result
 add-result c = search needs
