@@ -7,7 +7,7 @@ use Prim.Native.Nat.{ℕ, zero, suc, _+_, _*_, _-_, _/_, _%_, _^_, _<_, _≤_}
 use native.Mathlib.Nat.{mod-eq-of-lt, mod-lt, suc-add, zero-add, pow-suc}
 use native.Mathlib.Numerals.{add-one}
 use native.Mathlib.Omega.{arith}
-use lib.IntN.{ℤ, pos, negsuc, natAbs, _-ℤ_}
+use lib.IntN.{ℤ, pos, negsuc, natAbs, _-ℤ_, +ℤ-idl}
 use lib.Signed.{ltZ, nonNeg}
 use lib.Count.{leadingZeros, leading-top}
 use lib.ListN.{length, take, drop, getD, set, replicate}
@@ -29,7 +29,7 @@ use Rattle.code.specs.Magnitudes.{leading-is, exponent-lt, high-lt, fiel
 use Rattle.code.specs.Shapes.{Drop}
 use Rattle.code.proofs.Reading.{shift-is}
 use Rattle.code.specs.Steps.{Holds, byteBits, PlacePromise, placeMeans, placeLeaves}
-use Rattle.code.specs.Promise.{PackPromise}
+use Rattle.code.specs.Promise.{PackPromise, SignPromise}
 use Rattle.code.specs.declared.Packed.{Packed}
 use Rattle.code.specs.declared.Packed.the-variants.{Next, OutsideRule as PackedOutsideRule, TooShort}
 
@@ -66,6 +66,12 @@ natural (negsuc n) t = absurd (Rattle.code.specs.Shapes.false-true (sym 
 less-negative : (n : ℕ) → pos 0 -ℤ negsuc n ≡ pos (suc n)
 less-negative n = ap pos (zero-add (suc n))
 
+-- 64 bits hold the negation of every number that fits 32
+negation-fits : (v : ℤ) → SFits w32 v → SFits w64 (pos 0 -ℤ v)
+negation-fits (pos zero) f = record { sfits = omega arith }
+negation-fits (pos (suc n)) f = subst (SFits w64) (sym (+ℤ-idl (negsuc n))) (record { sfits = omega (arith, f .sfits) })
+negation-fits (negsuc n) f = subst (SFits w64) (sym (less-negative n)) (record { sfits = omega (arith, f .sfits) })
+
 module _ (v : ℤ) (f : SFits w32 v) where
   -- a negative number, and what is left of nothing less it
   negated : ltZ (asWide v) (pos 0) ≡ true → (n : ℕ) × (v ≡ negsuc n) × (pos 0 -ℤ asWide v ≡ pos (suc n)) × (n < 2 ^ 31)
@@ -77,14 +83,12 @@ module _ (v : ℤ) (f : SFits w32 v) where
         subst (SFits w32) (o .1) f .sfits,
       )
 
-  pub negated-fits : ltZ (asWide v) (pos 0) ≡ true → SFits w64 (pos 0 -ℤ asWide v)
-  negated-fits t =
-      let o = negated t in
-      subst (SFits w64) (sym (o .2)) (record { sfits = omega (arith, o .3) })
+  pub negated-fits : SFits w64 (pos 0 -ℤ asWide v)
+  negated-fits = subst (λ (z : ℤ). SFits w64 (pos 0 -ℤ z)) (sym (as-wide v f)) (negation-fits v f)
 
   -- the negation as 64 bits hold it
   negated-back : (t : ltZ (asWide v) (pos 0) ≡ true) → toZ w64 (ofZ w64 (pos 0 -ℤ asWide v)) ≡ pos (suc (negated t .0))
-  negated-back t = toZ-ofZ w64 (pos 0 -ℤ asWide v) (negated-fits t) ∙ negated t .2
+  negated-back t = toZ-ofZ w64 (pos 0 -ℤ asWide v) negated-fits ∙ negated t .2
 
   pub negated-cast : ltZ (asWide v) (pos 0) ≡ true
       → T (nonNeg (toZ w64 (ofZ w64 (pos 0 -ℤ asWide v)))) × Fits w32 (natAbs (toZ w64 (ofZ w64 (pos 0 -ℤ asWide v))))
@@ -104,15 +108,15 @@ module _ (v : ℤ) (f : SFits w32 v) where
   pub natural-is : natAbs (asWide v) ≡ natAbs v
   natural-is = ap natAbs (as-wide v f)
 
-  pub sign-minus : ltZ (toZ w32 (ofZ w32 v)) (pos 0) ≡ true → (1 ≡ signOf v) × (1 < 2)
+  pub sign-minus : ltZ (toZ w32 (ofZ w32 v)) (pos 0) ≡ true → SignPromise v 1
   sign-minus t =
       let o = negative v (subst (λ (z : ℤ). ltZ z (pos 0) ≡ true) (toZ-ofZ w32 v f) t) in
-      (ap signOf (sym (o .1)), omega arith)
+      record { answer = ap signOf (sym (o .1)); bit = omega arith }
 
-  pub sign-plus : ltZ (toZ w32 (ofZ w32 v)) (pos 0) ≡ false → (0 ≡ signOf v) × (0 < 2)
+  pub sign-plus : ltZ (toZ w32 (ofZ w32 v)) (pos 0) ≡ false → SignPromise v 0
   sign-plus t =
       let o = natural v (subst (λ (z : ℤ). ltZ z (pos 0) ≡ false) (toZ-ofZ w32 v f) t) in
-      (ap signOf (sym (o .1)), omega arith)
+      record { answer = ap signOf (sym (o .1)); bit = omega arith }
 
 -- ---- a code's bits as a number
 

@@ -3,11 +3,10 @@ use crate::Packed;
 use crate::read;
 ghost use mathlib.Core.Path.{_≡_};
 ghost use Prim.Native.Nat.{_+_, _-_, _*_, _/_, _%_, _^_, _<_, _≤_};
-ghost use lib.IntN.{natAbs};
 ghost use lib.ListN.{length, set};
 ghost use Rattle.ground.specs.Bits.{toBits, bitsOf};
 ghost use Rattle.ground.specs.Putting.{put as putOver};
-ghost use Rattle.code.specs.Meaning.{signOf, leastCoded, leading as leadingPlace, shapeOf, bits, coded as codedBits, bigOf, counted, toByteEnd, bytesWith, largest, longestRun};
+ghost use Rattle.code.specs.Meaning.{leastCoded, leading as leadingPlace, shapeOf, bits, coded as codedBits, bigOf, counted, toByteEnd, bytesWith, largest, longestRun};
 ghost use Rattle.code.specs.Shapes.{Drop};
 ghost use Rattle.code.specs.Steps.{Holds, PlacePromise, byteBits};
 
@@ -15,21 +14,6 @@ ghost use Rattle.code.specs.Steps.{Holds, PlacePromise, byteBits};
 pub(crate) struct Held {
     pub(crate) number: u64,
     pub(crate) count: u32,
-}
-
-// The magnitude of a number, at every i32.
-pub(crate) fn magnitude(v: i32) -> u32
-    ensures { λ r. ⌜ r ≡ natAbs v ⌝ }
-{
-    let w = v as i64;
-    if w < 0 { (0 - w) as u32 } else { w as u32 }
-}
-
-// The sign bit of a number.
-pub(crate) fn sign(v: i32) -> u32
-    ensures { λ r. ⌜ (r ≡ signOf v) × (r < 2) ⌝ }
-{
-    if v < 0 { 1 } else { 0 }
 }
 
 // The code of a sign and a magnitude inside the rule.

@@ -31,7 +31,7 @@ code-requires c κs =
     let a = c .before .before .before .before .before .before .args in
     let t = both-hold {a = dropTaken (a .drop)} (sym (c .before .before .before .in-rule .ensures) ∙ c .before .before .if1 .taken) in
     let small = leb-true (c .before .before .before .before .magnitude .result) largest (t .1) in
-    (subst Drop (sym (c .before .wide .ensures)) (drop-of (a .drop) (t .0)), c .sign .ensures .1, omega arith)
+    (subst Drop (sym (c .before .wide .ensures)) (drop-of (a .drop) (t .0)), c .sign .ensures .bit, omega arith)
 
 place-requires : tie.Need-place-requires
 place-requires c κs = search needs
@@ -46,7 +46,7 @@ returns c =
     let p = c .before .before .place in
     let v-is = toZ-ofZ w32 (a .v) (c .before .before .before .before .before .before .before .before .before .before .before .fits .v) in
     pack-is (a .buffer .now) (p .last .0) (a .at) (a .v) (a .drop) (c .before .before .before .before .before .before .wide .result) (c .before .before .before .before .before .sign .result) (c .before .before .before .before .before .before .before .before .before .magnitude .result) _ _ (p .result)
-    (c .before .before .before .before .before .before .before .before .before .magnitude .ensures ∙ ap natAbs v-is) (c .before .before .before .before .before .sign .ensures .0 ∙ ap signOf v-is) (c .before .before .before .before .before .before .wide .ensures) t (c .before .before .before .before .code .ensures) (p .ensures)
+    (c .before .before .before .before .before .before .before .before .before .magnitude .ensures ∙ ap natAbs v-is) (c .before .before .before .before .before .sign .ensures .answer ∙ ap signOf v-is) (c .before .before .before .before .before .before .wide .ensures) t (c .before .before .before .before .code .ensures) (p .ensures)
 
 returns-2 : tie.Need-returns-2
 returns-2 c =
