@@ -1,0 +1,49 @@
+-- An ask's outcomes, one law a return.
+-- Assumes nothing.
+use mathlib.Core.Path.{_≡_, refl, ap, sym, _∙_}
+use mathlib.Core.Bool.{Bool, true, false, not}
+use mathlib.Core.List.{List}
+use Prim.Native.Nat.{ℕ, _/_, _≤_, _<_}
+use lib.ListN.{length}
+use borrow.Author.Tests.{lt-ltb, le-ltb}
+use Rattle.histogram.specs.Meaning.{Outcome, Walk, askMeans, askWalk, cellsOf, fittingOf, keeping, lastOf, newMeans, soundOf, turnMeans, turnOf, walkOf}
+use Rattle.histogram.specs.Answers.{askPaper}
+use Rattle.histogram.specs.Promise.{AskPromise, askedOf}
+use Rattle.histogram.specs.declared.Window.{Window}
+use Rattle.histogram.specs.declared.State.{State}
+use Rattle.histogram.specs.declared.Asked.{Asked}
+use Rattle.histogram.specs.declared.AskAnswer.{AskAnswer}
+use Rattle.histogram.specs.declared.turn.Turn.{Turn}
+
+-- an outcome that is the meaning's keeps the promise
+meets : (m : List ℕ) (s : State) (n : ℕ) (w : Window) (r : Asked) (after : List ℕ) → askedOf r after ≡ askMeans m s n w → AskPromise m s n w r after
+meets m s n w r after e =
+    record {
+      answer = ap (λ (o : Outcome). o .answer) e;
+      memory = ap (λ (o : Outcome). o .memory) e;
+      state = ap (λ (o : Outcome). o .state) e;
+    }
+
+module _ (m : List ℕ) (s : State) (n : ℕ) (w : Window) where
+  pub asked13 : fittingOf (length m) s ≡ false → AskPromise m s n w (record { answer = AskAnswer.WrongMemory; state = s }) m
+  unfolding askMeans
+  asked13 h = meets m s n w _ m (rw h)
+
+  -- an ask does what its turn says
+  pub asked : fittingOf (length m) s ≡ true → {t : Turn} → t ≡ turnOf (s .kept) n w → {u : Turn} → t ≡ u → (r : Asked) (after : List ℕ) → askedOf r after ≡ turnMeans u m s n w → AskPromise m s n w r after
+  unfolding askMeans
+  asked h {t} e {u} f r after g = meets m s n w r after (rw (h, ← e, f) g)
+
+  pub asked14 : {l : ℕ} → l ≡ lastOf w → length m / 2 ≤ l → askedOf (record { answer = AskAnswer.WrongCell; state = s }) m ≡ newMeans m s n w
+  unfolding newMeans
+  asked14 e h = rw (← e, le-ltb _ _ h)
+
+  pub asked16 : {l : ℕ} → l ≡ lastOf w → l < length m / 2 → soundOf m (not (s .second)) (cellsOf w) ≡ false → askedOf (record { answer = AskAnswer.AboveFull; state = s }) m ≡ newMeans m s n w
+  unfolding newMeans
+  asked16 e h k = rw (← e, lt-ltb _ _ h, k)
+
+  pub walked : {l : ℕ} → l ≡ lastOf w → l < length m / 2 → soundOf m (not (s .second)) (cellsOf w) ≡ true
+      → (sum : ℕ) (after : List ℕ) (t : State) → _≡_ {A = Walk} (record { memory = after; sum = sum }) (askWalk m s w) → t ≡ keeping s n w sum
+      → askedOf (record { answer = AskAnswer.New sum; state = t }) after ≡ newMeans m s n w
+  unfolding newMeans
+  walked e h k sum after t f g = rw (← e, lt-ltb _ _ h, k, ← f, g)

@@ -1,0 +1,19 @@
+-- A flip's outcomes, one law a return.
+-- Assumes nothing.
+use mathlib.Core.Path.{_≡_, refl, ap, sym}
+use mathlib.Core.Bool.{Bool, true, false, not}
+use mathlib.Core.List.{List}
+use Prim.Native.Nat.{ℕ}
+use lib.ListN.{length}
+use Rattle.histogram.specs.Meaning.{exchanged, fittingOf, flipMeans}
+use Rattle.histogram.specs.Promise.{FlipPromise}
+use Rattle.histogram.specs.declared.State.{State}
+use Rattle.histogram.specs.declared.FlipAnswer.{FlipAnswer}
+
+pub exchange13 : (m : List ℕ) (s : State) → fittingOf (length m) s ≡ false → FlipPromise m s (record { answer = FlipAnswer.WrongMemory; state = s })
+unfolding flipMeans
+exchange13 m s h = record { answer = rw h; state = rw h }
+
+pub exchange : (m : List ℕ) (s : State) → fittingOf (length m) s ≡ true → FlipPromise m s (record { answer = FlipAnswer.Exchanged; state = exchanged s })
+unfolding flipMeans
+exchange m s h = record { answer = rw h; state = rw h }

@@ -1,0 +1,5 @@
+pub mod Layout
+pub mod Meaning
+pub mod Answers
+pub mod Promise
+pub mod Walks
