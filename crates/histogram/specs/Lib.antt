@@ -2,4 +2,10 @@ pub mod Layout
 pub mod Meaning
 pub mod Answers
 pub mod Promise
+pub mod OneOutcome
+pub mod Cells
 pub mod Walks
+pub mod Fresh
+pub mod Runs
+pub mod Conservation
+pub mod Repeat
