@@ -25,25 +25,31 @@ meets m s n w r after e =
     }
 
 module _ (m : List ℕ) (s : State) (n : ℕ) (w : Window) where
-  pub asked13 : fittingOf (length m) s ≡ false → AskPromise m s n w (record { answer = AskAnswer.WrongMemory; state = s }) m
+  pub asked13 : fittingOf (length m) s ≡ false → (r : Asked) → r ≡ record { answer = AskAnswer.WrongMemory; state = s } → AskPromise m s n w r m
   unfolding askMeans
-  asked13 h = meets m s n w _ m (rw h)
+  asked13 h r e = meets m s n w r m (rw (h, e))
 
   -- an ask does what its turn says
-  pub asked : fittingOf (length m) s ≡ true → {t : Turn} → t ≡ turnOf (s .kept) n w → {u : Turn} → t ≡ u → (r : Asked) (after : List ℕ) → askedOf r after ≡ turnMeans u m s n w → AskPromise m s n w r after
+  pub asked : fittingOf (length m) s ≡ true → {t : Turn} → t ≡ turnOf (s .kept) n w → {u : Turn} → t ≡ u → (r : Asked) (after : List ℕ)
+      → askedOf r after ≡ turnMeans u m s n w → AskPromise m s n w r after
   unfolding askMeans
   asked h {t} e {u} f r after g = meets m s n w r after (rw (h, ← e, f) g)
 
-  pub asked14 : {l : ℕ} → l ≡ lastOf w → length m / 2 ≤ l → askedOf (record { answer = AskAnswer.WrongCell; state = s }) m ≡ newMeans m s n w
+  pub asked14 : {l : ℕ} → l ≡ lastOf w → length m / 2 ≤ l → (r : Asked) → r ≡ record { answer = AskAnswer.WrongCell; state = s } → askedOf r m ≡ newMeans m s n w
   unfolding newMeans
-  asked14 e h = rw (← e, le-ltb _ _ h)
+  asked14 e h r f = rw (← e, le-ltb _ _ h, f)
 
-  pub asked16 : {l : ℕ} → l ≡ lastOf w → l < length m / 2 → soundOf m (not (s .second)) (cellsOf w) ≡ false → askedOf (record { answer = AskAnswer.AboveFull; state = s }) m ≡ newMeans m s n w
+  pub asked16 : {l : ℕ} → l ≡ lastOf w → l < length m / 2 → soundOf m (not (s .second)) (cellsOf w) ≡ false → (r : Asked) → r ≡ record { answer = AskAnswer.AboveFull; state = s } → askedOf r m ≡ newMeans m s n w
   unfolding newMeans
-  asked16 e h k = rw (← e, lt-ltb _ _ h, k)
+  asked16 e h k r f = rw (← e, lt-ltb _ _ h, k, f)
 
   pub walked : {l : ℕ} → l ≡ lastOf w → l < length m / 2 → soundOf m (not (s .second)) (cellsOf w) ≡ true
       → (sum : ℕ) (after : List ℕ) (t : State) → _≡_ {A = Walk} (record { memory = after; sum = sum }) (askWalk m s w) → t ≡ keeping s n w sum
       → askedOf (record { answer = AskAnswer.New sum; state = t }) after ≡ newMeans m s n w
   unfolding newMeans
   walked e h k sum after t f g = rw (← e, lt-ltb _ _ h, k, ← f, g)
+
+  -- an ask that leaves the memory does what its turn says
+  pub asked-still : fittingOf (length m) s ≡ true → {t : Turn} → t ≡ turnOf (s .kept) n w → {u : Turn} → t ≡ u → (r q : Asked) → r ≡ q
+      → askedOf q m ≡ turnMeans u m s n w → AskPromise m s n w r m
+  asked-still h e f r q g k = asked h e f r m (ap (λ (x : Asked). askedOf x m) g ∙ k)

@@ -22,9 +22,9 @@ row-within address step r ysize xsize n h l =
     omega arith
 
 -- a row's start is far below the machine's limit
-pub row-far : (row x y : ℕ) → row < 256 → x < 256 → y < 65536 → row * (x + y) < 4294967296
-row-far row x y h k l =
-    let m : row * (x + y) ≤ 255 * (x + y) = mul-le-mul-right (x + y) (omega arith) in
+pub row-far : (row step : ℕ) → row < 256 → step < 65792 → row * step < 4294967296
+row-far row step h k =
+    let m : row * step ≤ 255 * step = mul-le-mul-right step (omega arith) in
     omega arith
 
 -- one cell more of a row checked

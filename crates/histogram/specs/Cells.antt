@@ -52,14 +52,15 @@ rows-at a step width zero r c h l = absurd (omega arith)
 rows-at a step width (suc k) r c h l =
     ⊎-elim
     (λ e. ap (λ (i : ℕ). getD (rowsOf a step width k ++ rowOf (a + k * step) width) i 0) (here e)
-      ∙ getD-append-add (rowsOf a step width k) (rowOf (a + k * step) width) c 0
-      ∙ row-at (a + k * step) width c l
-      ∙ ap (λ (j : ℕ). a + j * step + c) (sym e))
+    ∙ getD-append-add (rowsOf a step width k) (rowOf (a + k * step) width) c 0
+    ∙ row-at (a + k * step) width c l
+    ∙ ap (λ (j : ℕ). a + j * step + c) (sym e))
     (λ u. List·getD-append (rowsOf a step width k) (rowOf (a + k * step) width) 0 (r * width + c) (before u) ∙ rows-at a step width k r c u l)
     (at-or-under h)
   where
     here : r ≡ k → r * width + c ≡ length (rowsOf a step width k) + c
     here e = omega (arith, rows-length a step width k, ap (λ (j : ℕ). j * width) e)
+
     before : r < k → r * width + c < length (rowsOf a step width k)
     before u =
         let m : suc r * width ≤ k * width = mul-le-mul-right width u in

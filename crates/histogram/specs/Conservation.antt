@@ -46,9 +46,9 @@ pub walk-clears : (page : Bool) (w : Walk) (cells : List ℕ) → total (walkOf 
 walk-clears page w [] = refl
 walk-clears page w (x ∷ xs) =
     let ih : total (walkOf page true (visitOf page true w x) xs .memory) + walkOf page true (visitOf page true w x) xs .sum
-            ≡ total (visitOf page true w x .memory) + visitOf page true w x .sum = walk-clears page (visitOf page true w x) xs in
+    ≡ total (visitOf page true w x .memory) + visitOf page true w x .sum = walk-clears page (visitOf page true w x) xs in
     let one : total (set (w .memory) (placeOf (length (w .memory)) page x) 0) + getD (w .memory) (placeOf (length (w .memory)) page x) 0 ≡ total (w .memory)
-            = total-clear (w .memory) (placeOf (length (w .memory)) page x) in
+    = total-clear (w .memory) (placeOf (length (w .memory)) page x) in
     omega arith
 
 -- a keeping walk leaves the memory
@@ -72,12 +72,12 @@ unfolding incrementMeans
 increment-conserves m s address =
     pick-elim P (fittingOf (length m) s) _ _
     (λ h. pick-elim P (ltb address (length m / 2)) _ _
-      (λ k. pick-elim P (leb (wordOf m (s .second) address) full) _ _
-        (λ l. pick-elim P (eqb (wordOf m (s .second) address) full) _ _
-          (λ e. refl)
-          (λ e. omega (arith, total-set m (placeOf (length m) (s .second) address) (wordOf m (s .second) address + 1) (within (length m) (s .second) address (ltb-true _ _ k)))))
-        (λ l. refl))
-      (λ k. refl))
+    (λ k. pick-elim P (leb (wordOf m (s .second) address) full) _ _
+    (λ l. pick-elim P (eqb (wordOf m (s .second) address) full) _ _
+    (λ e. refl)
+    (λ e. omega (arith, total-set m (placeOf (length m) (s .second) address) (wordOf m (s .second) address + 1) (within (length m) (s .second) address (ltb-true _ _ k)))))
+    (λ l. refl))
+    (λ k. refl))
     (λ h. refl)
   where
     P : Outcome → Type 0
@@ -94,8 +94,8 @@ unfolding newMeans
 new-conserves m s number w =
     pick-elim (λ (o : Outcome). Conserves m (ask number w) o) (ltb (lastOf w) (length m / 2)) _ _
     (λ h. pick-elim (λ (o : Outcome). Conserves m (ask number w) o) (soundOf m (not (s .second)) (cellsOf w)) _ _
-      (λ k. walk-conserves (not (s .second)) (w .clear) m (cellsOf w))
-      (λ k. refl))
+    (λ k. walk-conserves (not (s .second)) (w .clear) m (cellsOf w))
+    (λ k. refl))
     (λ h. refl)
 
 -- an ask of any turn conserves

@@ -26,6 +26,7 @@ is-opened m s e =
   where
     Told : Bool → Type 0
     Told b = (b ≡ true) × (pick b (replicate (length m) 0) m ≡ replicate (length m) 0) × (s ≡ fresh (length m))
+
     told : (b : Bool) → pick b (accepted (fresh (length m))) (refused 13) ≡ accepted s → Told b
     told true h = (refl, refl, cc)
     told false h = absurd (let z : _≡_ {A = ℕ} 0 1 = cc in omega arith)

@@ -8,4 +8,7 @@ pub mod Walks
 pub mod Fresh
 pub mod Runs
 pub mod Conservation
+pub mod Stays
 pub mod Repeat
+pub mod Numbers
+pub mod Cases

@@ -24,11 +24,11 @@ one-open m r r′ after after′ p q =
 -- an increment has one outcome
 pub one-increment : (m : List ℕ) (s : State) (address : ℕ) (r r′ : Incremented) (after after′ : List ℕ)
     → IncrementPromise m s address r after → IncrementPromise m s address r′ after′ → (r ≡ r′) × (after ≡ after′)
-one-increment m s address r r′ after after′ p q =
-    ( ap₂ {C = Incremented} (λ (a : IncrementAnswer) (t : State). record { answer = a; state = t })
-      (one-answer incrementPaper incrementBack increment-home (p .answer) (q .answer)) (one-value (p .state) (q .state))
-    , one-value (p .memory) (q .memory)
-    )
+one-increment m s address r r′ after after′ p q = (
+  ap₂ {C = Incremented} (λ (a : IncrementAnswer) (t : State). record { answer = a; state = t })
+      (one-answer incrementPaper incrementBack increment-home (p .answer) (q .answer)) (one-value (p .state) (q .state)),
+  one-value (p .memory) (q .memory),
+)
 
 -- a flip has one outcome
 pub one-flip : (m : List ℕ) (s : State) (r r′ : Flipped) → FlipPromise m s r → FlipPromise m s r′ → r ≡ r′
@@ -39,8 +39,8 @@ one-flip m s r r′ p q =
 -- an ask has one outcome
 pub one-ask : (m : List ℕ) (s : State) (number : ℕ) (w : Window) (r r′ : Asked) (after after′ : List ℕ)
     → AskPromise m s number w r after → AskPromise m s number w r′ after′ → (r ≡ r′) × (after ≡ after′)
-one-ask m s number w r r′ after after′ p q =
-    ( ap₂ {C = Asked} (λ (a : AskAnswer) (t : State). record { answer = a; state = t })
-      (one-answer askPaper askBack ask-home (p .answer) (q .answer)) (one-value (p .state) (q .state))
-    , one-value (p .memory) (q .memory)
-    )
+one-ask m s number w r r′ after after′ p q = (
+  ap₂ {C = Asked} (λ (a : AskAnswer) (t : State). record { answer = a; state = t })
+      (one-answer askPaper askBack ask-home (p .answer) (q .answer)) (one-value (p .state) (q .state)),
+  one-value (p .memory) (q .memory),
+)

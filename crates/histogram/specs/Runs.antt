@@ -71,12 +71,12 @@ answered l c = callMeans (l .memory) (l .state) c
 -- one call
 abbrev pub step : Ledger → Call → Ledger
 step l c =
-    record
-      { memory = answered l c .memory
-      ; state = answered l c .state
-      ; cleared = l .cleared + clearedBy c (answered l c .answer)
-      ; increments = l .increments + acceptedBy c (answered l c .answer)
-      }
+    record {
+      memory = answered l c .memory;
+      state = answered l c .state;
+      cleared = l .cleared + clearedBy c (answered l c .answer);
+      increments = l .increments + acceptedBy c (answered l c .answer);
+    }
 
 -- a sequence of calls
 abbrev pub run : Ledger → List Call → Ledger

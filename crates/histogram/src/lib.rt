@@ -176,24 +176,15 @@ pub fn ask(memory: &mut [u32], state: State, number: u16, window: Window) -> Ask
     ensures { λ r. ⌜ AskPromise (now (memory .entry)) state number window r (now (memory .exit)) ⌝ }
 {
     if !fitting(memory.len(), state) {
-        return Asked {
-            answer: AskAnswer::WrongMemory,
-            state,
-        };
+        return not_asked(AskAnswer::WrongMemory, state);
     }
     let kept = state.kept;
     let turn = turn_of(kept, number, window);
     match turn {
         Turn::NewAsk => new_ask(memory, state, number, window),
         Turn::LastAsk(sum) => again(state, sum),
-        Turn::OtherWindow => Asked {
-            answer: AskAnswer::OtherWindow,
-            state,
-        },
-        Turn::OutOfTurn => Asked {
-            answer: AskAnswer::OutOfTurn,
-            state,
-        },
+        Turn::OtherWindow => not_asked(AskAnswer::OtherWindow, state),
+        Turn::OutOfTurn => not_asked(AskAnswer::OutOfTurn, state),
     }
 }
 
@@ -284,23 +275,24 @@ fn new_ask(memory: &mut [u32], state: State, number: u16, window: Window) -> Ask
     ensures { λ r. ⌜ askedOf r (now (memory .exit)) ≡ newMeans (now (memory .entry)) state number window ⌝ }
 {
     if memory.len() / 2 <= last_cell(window) {
-        return Asked {
-            answer: AskAnswer::WrongCell,
-            state,
-        };
+        return not_asked(AskAnswer::WrongCell, state);
     }
     let idle = !state.second;
     if !sound_rows(memory, idle, window) {
-        return Asked {
-            answer: AskAnswer::AboveFull,
-            state,
-        };
+        return not_asked(AskAnswer::AboveFull, state);
     }
     let sum = walk_rows(memory, idle, window);
     Asked {
         answer: AskAnswer::New { sum },
         state: keep(state, number, window, sum),
     }
+}
+
+// A refused ask; the state stays.
+fn not_asked(answer: AskAnswer, state: State) -> Asked
+    ensures { λ r. ⌜ r ≡ record { answer = answer; state = state } ⌝ }
+{
+    Asked { answer, state }
 }
 
 // The kept sum answered again; the state stays.

@@ -23,10 +23,10 @@ pub fn sound_rows(memory: &[u32], page: bool, window: Window) -> bool
     ensures { λ r. ⌜ r ≡ soundOf (now (memory .entry)) page (cellsOf window) ⌝ }
 {
     let width = window.xsize as usize + 1;
-    let rows = window.ysize as usize + 1;
+    let height = window.ysize as usize + 1;
     let mut ok = true;
     let mut row = 0;
-    while row < rows {
+    while row < height {
         let start = row_start(window, row);
         ok = both(ok, sound_row(memory, page, start, width));
         row += 1;
@@ -57,8 +57,15 @@ fn row_start(window: Window, row: usize) -> usize
     requires { ⌜ row < 256 ⌝ }
     ensures { λ r. ⌜ (r ≡ window .address + row * (window .xsize + window .ystride)) × (r < 8589934592) ⌝ }
 {
-    let step = window.xsize as usize + window.ystride as usize;
+    let step = row_step(window);
     window.address as usize + row * step
+}
+
+// How far a row's first cell lies past the first cell of the row before: ystride past that row's last.
+fn row_step(window: Window) -> usize
+    ensures { λ r. ⌜ (r ≡ window .xsize + window .ystride) × (r < 65792) ⌝ }
+{
+    window.xsize as usize + window.ystride as usize
 }
 
 // Whether every word of a row is at most full.

@@ -9,22 +9,30 @@ use Rattle.histogram.proofs.new_ask.Tie as tie
 last-cell-requires : tie.Need-last-cell-requires
 last-cell-requires c κs = search needs
 
+not-asked-requires : tie.Need-not-asked-requires
+not-asked-requires c κs = search needs
+
 returns : tie.Need-returns
 returns c =
-    let a = c .before .before .before .args in
-    asked14 (a .memory .now) (a .state) (a .number) (a .window) (c .before .last-cell .ensures) (c .if1 .taken)
+    let a = c .before .before .before .before .args in
+    asked14 (a .memory .now) (a .state) (a .number) (a .window) (c .before .before .last-cell .ensures) (c .before .if1 .taken) _
+    (c .not-asked .ensures)
 
 sound-rows-requires : tie.Need-sound-rows-requires
 sound-rows-requires c κs = search needs
+
+not-asked-requires-2 : tie.Need-not-asked-requires-2
+not-asked-requires-2 c κs = search needs
 
 same-length : tie.Need-same-length
 same-length c = search needs
 
 returns-2 : tie.Need-returns-2
 returns-2 c =
-    let a = c .before .before .before .before .before .before .before .args in
-    asked16 (a .memory .now) (a .state) (a .number) (a .window) (c .before .before .before .before .before .last-cell .ensures)
-    (c .before .before .before .before .if1 .left) (refused (c .before .sound-rows .ensures) (c .if2 .taken))
+    let a = c .before .before .before .before .before .before .before .before .args in
+    asked16 (a .memory .now) (a .state) (a .number) (a .window) (c .before .before .before .before .before .before .last-cell .ensures)
+    (c .before .before .before .before .before .if1 .left) (refused (c .before .before .sound-rows .ensures) (c .before .if2 .taken)) _
+    (c .not-asked2 .ensures)
 
 walk-rows-requires : tie.Need-walk-rows-requires
 walk-rows-requires c κs = search needs
@@ -49,8 +57,10 @@ new-ask-spec =
     tie.close
     (tie.spec
     last-cell-requires
+    not-asked-requires
     returns
     sound-rows-requires
+    not-asked-requires-2
     same-length
     returns-2
     walk-rows-requires

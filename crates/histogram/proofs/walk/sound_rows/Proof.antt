@@ -10,11 +10,11 @@ use Rattle.histogram.proofs.walk.sound_rows.Statement.{statement}
 use Rattle.histogram.proofs.walk.sound_rows.Tie as tie
 
 abbrev Inv-loop : tie.InvT-loop
-Inv-loop memory page window width rows ok₀ row₀ ok row =
-    (row ≤ rows) × (ok ≡ soundOf memory page (rowsOf (window .address) (window .xsize + window .ystride) width row))
+Inv-loop memory page window width height ok₀ row₀ ok row =
+    (row ≤ height) × (ok ≡ soundOf memory page (rowsOf (window .address) (window .xsize + window .ystride) width row))
 
 abbrev μ-loop : tie.MeasureT-loop
-μ-loop memory page window width rows ok₀ row₀ ok row = rows - row
+μ-loop memory page window width height ok₀ row₀ ok row = height - row
 
 cast-width : tie.Need-cast-width Inv-loop μ-loop
 cast-width c = search needs
@@ -22,11 +22,11 @@ cast-width c = search needs
 add-width : tie.Need-add-width Inv-loop μ-loop
 add-width c = search needs
 
-cast-rows : tie.Need-cast-rows Inv-loop μ-loop
-cast-rows c = search needs
+cast-height : tie.Need-cast-height Inv-loop μ-loop
+cast-height c = search needs
 
-add-rows : tie.Need-add-rows Inv-loop μ-loop
-add-rows c = search needs
+add-height : tie.Need-add-height Inv-loop μ-loop
+add-height c = search needs
 
 loop-holds : tie.Need-loop-holds Inv-loop μ-loop
 loop-holds c = (omega arith, refl)
@@ -70,8 +70,8 @@ sound-rows-spec =
     μ-loop
     cast-width
     add-width
-    cast-rows
-    add-rows
+    cast-height
+    add-height
     loop-holds
     row-start-requires
     sound-row-requires

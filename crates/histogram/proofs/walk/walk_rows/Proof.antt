@@ -13,7 +13,9 @@ use Rattle.histogram.proofs.walk.walk_rows.Tie as tie
 abbrev Inv-loop : tie.InvT-loop
 Inv-loop memory₀ page window width rows clear sum₀ row₀ memory sum row =
     (row ≤ rows) × (length memory ≡ length memory₀) ×
-    (_≡_ {A = Walk} (record { memory = memory; sum = sum }) (walkOf page clear (record { memory = memory₀; sum = 0 }) (rowsOf (window .address) (window .xsize + window .ystride) width row)))
+    (_≡_ {A =
+    Walk} (record { memory = memory; sum = sum }) (walkOf page clear (record { memory = memory₀; sum = 0 })
+    (rowsOf (window .address) (window .xsize + window .ystride) width row)))
     × (sum ≤ row * 1099511627776)
 
 abbrev μ-loop : tie.MeasureT-loop
