@@ -113,3 +113,8 @@ run-stays l (c ∷ cs) n =
 -- "lent memory and state stay": a refused call, whichever it is, changes neither
 pub refused-leaves : (m : List ℕ) (s : State) (c : Call) (n : ℕ) → callMeans m s c .answer ≡ refused n → (callMeans m s c .memory ≡ m) × (callMeans m s c .state ≡ s)
 refused-leaves m s c n e = call-stays m s c .refusal n e
+
+-- a flip leaves the memory
+pub flip-leaves : (m : List ℕ) (s : State) → flipMeans m s .memory ≡ m
+unfolding flipMeans
+flip-leaves m s = pick-elim (λ (o : Outcome). o .memory ≡ m) (fittingOf (length m) s) _ _ (λ h. refl) (λ h. refl)
