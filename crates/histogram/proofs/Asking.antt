@@ -1,13 +1,12 @@
 -- An ask's outcomes, one law a return.
 -- Assumes nothing.
-use mathlib.Core.Path.{_≡_, refl, ap, sym, _∙_}
-use mathlib.Core.Bool.{Bool, true, false, not}
+use mathlib.Core.Path.{_≡_, ap, _∙_}
+use mathlib.Core.Bool.{true, false, not}
 use mathlib.Core.List.{List}
 use Prim.Native.Nat.{ℕ, _/_, _≤_, _<_}
 use lib.ListN.{length}
 use borrow.Author.Tests.{lt-ltb, le-ltb}
-use Rattle.histogram.specs.Meaning.{Outcome, Walk, askMeans, askWalk, cellsOf, fittingOf, keeping, lastOf, newMeans, soundOf, turnMeans, turnOf, walkOf}
-use Rattle.histogram.specs.Answers.{askPaper}
+use Rattle.histogram.specs.Meaning.{Outcome, Walk, askMeans, askWalk, cellsOf, fittingOf, keeping, lastOf, newMeans, soundOf, turnMeans, turnOf}
 use Rattle.histogram.specs.Promise.{AskPromise, askedOf}
 use Rattle.histogram.specs.declared.Window.{Window}
 use Rattle.histogram.specs.declared.State.{State}
@@ -39,7 +38,8 @@ module _ (m : List ℕ) (s : State) (n : ℕ) (w : Window) where
   unfolding newMeans
   asked14 e h r f = rw (← e, le-ltb _ _ h, f)
 
-  pub asked16 : {l : ℕ} → l ≡ lastOf w → l < length m / 2 → soundOf m (not (s .second)) (cellsOf w) ≡ false → (r : Asked) → r ≡ record { answer = AskAnswer.AboveFull; state = s } → askedOf r m ≡ newMeans m s n w
+  pub asked16 : {l : ℕ} → l ≡ lastOf w → l < length m / 2 → soundOf m (not (s .second)) (cellsOf w) ≡ false → (r : Asked)
+      → r ≡ record { answer = AskAnswer.AboveFull; state = s } → askedOf r m ≡ newMeans m s n w
   unfolding newMeans
   asked16 e h k r f = rw (← e, lt-ltb _ _ h, k, f)
 

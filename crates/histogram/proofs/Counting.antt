@@ -1,13 +1,13 @@
 -- An increment's outcomes, one law a return.
 -- Assumes nothing.
-use mathlib.Core.Path.{_≡_, refl, ap, sym, subst, _∙_}
-use mathlib.Core.Bool.{Bool, true, false}
+use mathlib.Core.Path.{_≡_, ap, sym}
+use mathlib.Core.Bool.{true, false}
 use mathlib.Core.List.{List}
 use Prim.Native.Nat.{ℕ, _+_, _/_, _≤_, _<_}
 use lib.ListN.{length, getD, set}
-use borrow.Author.Tests.{lt-ltb, le-ltb, le-leb, lt-leb, eq-eqb, ne-eqb}
+use borrow.Author.Tests.{lt-ltb, le-ltb, le-leb, lt-leb, ne-eqb}
 use Rattle.histogram.specs.Layout.{placeOf}
-use Rattle.histogram.specs.Meaning.{Outcome, full, fittingOf, incrementMeans, wordOf}
+use Rattle.histogram.specs.Meaning.{Outcome, full, fittingOf, incrementMeans}
 use Rattle.histogram.specs.Answers.{incrementPaper}
 use Rattle.histogram.specs.Promise.{IncrementPromise}
 use Rattle.histogram.specs.declared.State.{State}

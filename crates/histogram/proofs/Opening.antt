@@ -1,13 +1,12 @@
 -- Opening: the loop that sets every word to 0, and the two outcomes.
 -- Assumes nothing.
-use mathlib.Core.Path.{_≡_, refl, ap, sym, _∙_}
-use mathlib.Core.Bool.{Bool, true, false}
-use mathlib.Core.List.{List, [], _∷_, _++_, append-nil}
-use Prim.Native.Nat.{ℕ, _+_, _≤_, _<_}
-use native.Mathlib.Nat.{le-antisymm}
+use mathlib.Core.Path.{_≡_, ap, _∙_}
+use mathlib.Core.Bool.{true, false}
+use mathlib.Core.List.{List, _++_, append-nil}
+use Prim.Native.Nat.{ℕ, _+_, _<_}
 use native.Mathlib.Omega.{arith}
 use lib.ListN.{length, set, replicate, drop, drop-of-length-le}
-use borrow.Author.Fill.{fill-none, fill-more}
+use borrow.Author.Fill.{fill-more}
 use Rattle.histogram.specs.Meaning.{fresh, sizedOf}
 use Rattle.histogram.specs.Promise.{OpenPromise}
 use Rattle.histogram.specs.declared.Opened.{Opened}

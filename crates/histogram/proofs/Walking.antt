@@ -1,9 +1,9 @@
 -- Rows and windows, a cell and a row at a time: the steps of the loops over them.
 -- Assumes nothing.
-use mathlib.Core.Path.{_≡_, refl, ap, ap₂, sym, subst, _∙_}
-use mathlib.Core.Bool.{Bool, true, false, _&&_, and-true}
-use mathlib.Core.List.{List, [], _∷_, _++_}
-use Prim.Native.Nat.{ℕ, zero, suc, _+_, _*_, _/_, _≤_, _<_}
+use mathlib.Core.Path.{_≡_, refl, ap}
+use mathlib.Core.Bool.{Bool, true, _&&_, and-true}
+use mathlib.Core.List.{List}
+use Prim.Native.Nat.{ℕ, _+_, _*_, _≤_, _<_}
 use native.Mathlib.Numerals.{add-one}
 use native.Mathlib.Nat.{mul-le-mul-right}
 use native.Mathlib.Omega.{arith}
@@ -11,7 +11,7 @@ use lib.Dec.{leb}
 use lib.ListN.{length, getD, set}
 use Rattle.ground.specs.Choice.{pick}
 use Rattle.histogram.specs.Layout.{placeOf}
-use Rattle.histogram.specs.Meaning.{Walk, full, rowOf, rowsOf, soundOf, visitOf, walkOf}
+use Rattle.histogram.specs.Meaning.{Walk, full, rowOf, rowsOf, soundOf, walkOf}
 use Rattle.histogram.specs.Walks.{walk-append, sound-append}
 
 -- a row of a window ends under N where the window's last cell does
@@ -34,13 +34,15 @@ sound-cell m page start c at ok l b i e f g =
     rw (add-one, sound-append, and-true, ← e, ← f, ← i) g
 
 -- one row more of a window checked
-pub sound-step : (m : List ℕ) (page : Bool) (address step width k start : ℕ) (ok l b : Bool) → ok ≡ soundOf m page (rowsOf address step width k) → start ≡ address + k * step
+pub sound-step : (m : List ℕ) (page : Bool) (address step width k start : ℕ) (ok l b : Bool) → ok ≡ soundOf m page (rowsOf address step width k)
+    → start ≡ address + k * step
     → l ≡ soundOf m page (rowOf start width) → b ≡ (ok && l) → b ≡ soundOf m page (rowsOf address step width (k + 1))
 sound-step m page address step width k start ok l b i e f g =
     rw (add-one, sound-append, ← e, ← f, ← i) g
 
 -- one cell more of a row visited
-pub walk-cell : (page clear : Bool) (w : Walk) (m : List ℕ) (total start c at r : ℕ) (after : List ℕ) → _≡_ {A = Walk} (record { memory = m; sum = total }) (walkOf page clear w (rowOf start c))
+pub walk-cell : (page clear : Bool) (w : Walk) (m : List ℕ) (total start c at r : ℕ) (after : List ℕ)
+    → _≡_ {A = Walk} (record { memory = m; sum = total }) (walkOf page clear w (rowOf start c))
     → at ≡ placeOf (length m) page (start + c) → r ≡ getD m at 0 → after ≡ pick clear (set m at 0) m
     → _≡_ {A = Walk} (record { memory = after; sum = total + r }) (walkOf page clear w (rowOf start (c + 1)))
 walk-cell page clear w m total start c at r after i e f g =

@@ -1,13 +1,12 @@
 -- Document 01's histogram case, run on the definitions by computing.
 -- Assumes nothing.
-use mathlib.Core.Bool.{Bool, true, false}
+use mathlib.Core.Bool.{true}
 use mathlib.Core.Path.{_≡_, refl}
-use mathlib.Core.List.{List, [], _∷_, map}
-use Prim.Native.Nat.{ℕ}
+use mathlib.Core.List.{List, [], _∷_}
 use Rattle.ground.specs.Paper.{Paper, accepted, refused}
 use Rattle.histogram.specs.Layout.{placeOf}
 use Rattle.histogram.specs.Meaning.{Value, done, new, again, askMeans, flipMeans, fresh, incrementMeans, newMeans, openMeans}
-use Rattle.histogram.specs.Runs.{Call, increment, flip, ask, Ledger, answered, opening, run, step}
+use Rattle.histogram.specs.Runs.{Call, increment, flip, ask, Ledger, answered, opening, step}
 use Rattle.histogram.specs.declared.Window.{Window}
 
 -- the answers of a sequence of calls, in order

@@ -1,20 +1,19 @@
 -- Demand 3, first sentence: over every sequence of calls from freshly opened memory, what is held and what was cleared are what was accepted.
 -- Assumes nothing.
 use mathlib.Core.Bool.{Bool, true, false, not}
-use mathlib.Core.Path.{_≡_, refl, sym, ap, _∙_}
-use mathlib.Core.List.{List, [], _∷_, _++_}
+use mathlib.Core.Path.{_≡_, refl, ap}
+use mathlib.Core.List.{List, [], _∷_}
 use Prim.Native.Nat.{ℕ, zero, suc, _+_, _/_, _<_}
 use native.Mathlib.Omega.{arith}
-use native.Mathlib.Nat.{add-zero}
 use lib.Dec.{leb, ltb, eqb}
 use lib.ListN.{length, getD, set, replicate}
 use borrow.Author.Tests.{ltb-true}
 use Rattle.ground.specs.Choice.{pick, pick-elim}
-use Rattle.ground.specs.Paper.{Paper, accepted, refused}
+use Rattle.ground.specs.Paper.{accepted}
 use Rattle.histogram.specs.Fresh.{is-opened}
 use Rattle.histogram.specs.Layout.{placeOf, within}
-use Rattle.histogram.specs.Meaning.{Outcome, Walk, askMeans, askWalk, cellsOf, fittingOf, flipMeans, full, incrementMeans, lastOf, newMeans, openMeans, openLeaves, sizedOf, soundOf, turnMeans, turnOf, visitOf, walkOf, wordOf}
-use Rattle.histogram.specs.Runs.{Call, increment, flip, ask, Ledger, acceptedBy, answered, callMeans, clearedBy, opening, run, step, total}
+use Rattle.histogram.specs.Meaning.{Outcome, Walk, askMeans, cellsOf, fittingOf, flipMeans, full, incrementMeans, lastOf, newMeans, openMeans, soundOf, turnMeans, turnOf, visitOf, walkOf, wordOf}
+use Rattle.histogram.specs.Runs.{Call, increment, flip, ask, Ledger, acceptedBy, callMeans, clearedBy, opening, run, step, total}
 use Rattle.histogram.specs.declared.Window.{Window}
 use Rattle.histogram.specs.declared.State.{State}
 use Rattle.histogram.specs.declared.turn.Turn.{Turn}

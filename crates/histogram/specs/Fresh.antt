@@ -8,7 +8,7 @@ use native.Mathlib.Omega.{arith}
 use lib.ListN.{length, replicate, length-replicate}
 use borrow.Author.Tests.{eq-eqb}
 use Rattle.ground.specs.Choice.{pick}
-use Rattle.ground.specs.Paper.{Paper, accepted, refused}
+use Rattle.ground.specs.Paper.{accepted, refused}
 use Rattle.histogram.specs.Meaning.{fittingOf, fresh, openMeans, openLeaves, sizedOf}
 use Rattle.histogram.specs.declared.State.{State}
 

@@ -4,7 +4,9 @@ pub mod Answers
 pub mod Promise
 pub mod OneOutcome
 pub mod Cells
+pub mod Words
 pub mod Walks
+pub mod Pages
 pub mod Fresh
 pub mod Runs
 pub mod Conservation

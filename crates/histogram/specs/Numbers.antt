@@ -61,14 +61,16 @@ first-number m s o cs n number sum w e =
     ∙ ap turnNumber (run-stays (opening m s) cs n .1 ∙ ap (λ (t : State). t .kept) (is-opened m s o .state))
 
 -- the next new ask bears the number after the last accepted one's, whatever calls lie between
-pub next-number : (l : Ledger) (number sum : ℕ) (w : Window) (later : List Call) → answered l (ask number w) .answer ≡ accepted (new sum) → NoNew (step l (ask number w)) later
+pub next-number : (l : Ledger) (number sum : ℕ) (w : Window) (later : List Call) → answered l (ask number w) .answer ≡ accepted (new sum)
+    → NoNew (step l (ask number w)) later
     → (number′ sum′ : ℕ) (w′ : Window) → answered (run (step l (ask number w)) later) (ask number′ w′) .answer ≡ accepted (new sum′) → number′ ≡ nextOf number
 next-number l number sum w later e n number′ sum′ w′ e′ =
     new-bears (run (step l (ask number w)) later .memory) (run (step l (ask number w)) later .state) number′ sum′ w′ e′
     ∙ ap turnNumber (stays-kept l number sum w later e n .1)
 
 -- where nothing is kept every number but 1 is out of turn
-pub nothing-kept : (m : List ℕ) (s : State) (number : ℕ) (w : Window) → fittingOf (length m) s ≡ true → s .kept ≡ Nothing → (number ≡ 1 → ⊥) → askMeans m s number w .answer ≡ refused 17
+pub nothing-kept : (m : List ℕ) (s : State) (number : ℕ) (w : Window) → fittingOf (length m) s ≡ true → s .kept ≡ Nothing → (number ≡ 1 → ⊥)
+    → askMeans m s number w .answer ≡ refused 17
 unfolding askMeans
 nothing-kept m s number w f k h = rw (f, k, ne-eqb number 1 h)
 

@@ -78,7 +78,8 @@ is-new m s number sum w =
     (λ h e. absurd (refused-not e))
 
 -- after a new ask, and whatever calls with no new ask among them, the memory fits and the ask is kept
-pub stays-kept : (l : Ledger) (number sum : ℕ) (w : Window) (later : List Call) → answered l (ask number w) .answer ≡ accepted (new sum) → NoNew (step l (ask number w)) later
+pub stays-kept : (l : Ledger) (number sum : ℕ) (w : Window) (later : List Call) → answered l (ask number w) .answer ≡ accepted (new sum)
+    → NoNew (step l (ask number w)) later
     → (fittingOf (length (run (step l (ask number w)) later .memory)) (run (step l (ask number w)) later .state) ≡ true)
     × (run (step l (ask number w)) later .state .kept ≡ Last number w sum)
 stays-kept l number sum w later e n =
@@ -91,7 +92,8 @@ stays-kept l number sum w later e n =
 
 -- demand 3: an ask accepted as new, and no later ask so: asked again with its number and window, whatever increments, flips and refused calls lie between,
 -- it answers the same sum as again, and leaves memory and state as they are
-pub repeat : (l : Ledger) (number sum : ℕ) (w : Window) (later : List Call) → answered l (ask number w) .answer ≡ accepted (new sum) → NoNew (step l (ask number w)) later
+pub repeat : (l : Ledger) (number sum : ℕ) (w : Window) (later : List Call) → answered l (ask number w) .answer ≡ accepted (new sum)
+    → NoNew (step l (ask number w)) later
     → answered (run (step l (ask number w)) later) (ask number w)
     ≡ record { answer = accepted (again sum); memory = run (step l (ask number w)) later .memory; state = run (step l (ask number w)) later .state }
 repeat l number sum w later e n =

@@ -3,10 +3,9 @@
 use mathlib.Core.Path.{_≡_, refl, ap, sym, _∙_}
 use mathlib.Core.Bool.{Bool, true, false, _&&_, and-assoc}
 use mathlib.Core.List.{List, [], _∷_, _++_}
-use Prim.Native.Nat.{ℕ, zero, suc, _+_}
+use Prim.Native.Nat.{ℕ, _+_}
 use lib.Dec.{leb}
-use lib.ListN.{length, getD, set, length-set}
-use Rattle.ground.specs.Choice.{pick}
+use lib.ListN.{length, set, length-set}
 use Rattle.histogram.specs.Layout.{placeOf}
 use Rattle.histogram.specs.Meaning.{Walk, full, soundOf, visitOf, walkOf, wordOf}
 

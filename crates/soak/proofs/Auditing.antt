@@ -10,8 +10,8 @@ use lib.ListN.{length, getD, take}
 use lib.Seq.{take-suc, take-all}
 use lib.Dec.{leb, eqb}
 use borrow.Author.Tests.{eq-eqb, leb-true}
-use Rattle.ground.specs.Paper.{Paper, accepted}
-use Rattle.histogram.specs.Answers.{askPaper, askBack, ask-home}
+use Rattle.ground.specs.Paper.{accepted}
+use Rattle.histogram.specs.Answers.{askBack, ask-home}
 use Rattle.histogram.specs.Meaning.{Outcome, again, askMeans, fittingOf, sameFlag, sizedOf}
 use Rattle.histogram.specs.Promise.{AskPromise}
 use Rattle.histogram.specs.Repeat.{flag-same, kept-again}

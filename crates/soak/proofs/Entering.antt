@@ -1,18 +1,17 @@
 -- A call answered as it means, entered into the book: the book still holds.
 -- Assumes nothing.
-use mathlib.Core.Bool.{Bool, true, false, _&&_}
+use mathlib.Core.Bool.{true, false, _&&_}
 use mathlib.Core.Path.{_≡_, refl, sym, ap, ap₂, _∙_}
 use mathlib.Core.List.{List}
-use Prim.Native.Nat.{ℕ, _+_, _≤_, _<_}
+use Prim.Native.Nat.{ℕ, _+_, _≤_}
 use native.Mathlib.Omega.{arith}
 use lib.Dec.{eqb}
 use lib.ListN.{length}
-use Rattle.ground.specs.Choice.{pick}
-use Rattle.ground.specs.Paper.{Paper, accepted, refused}
+use Rattle.ground.specs.Paper.{Paper, accepted}
 use Rattle.histogram.specs.Answers.{askPaper, flipPaper, incrementPaper, openedPaper}
 use Rattle.histogram.specs.Conservation.{call-conserves, opened-balanced}
 use Rattle.histogram.specs.Fresh.{is-opened, opened-fits}
-use Rattle.histogram.specs.Meaning.{Outcome, Value, new, again, askMeans, fittingOf, openMeans, openLeaves, sizedOf}
+use Rattle.histogram.specs.Meaning.{Value, new, fittingOf, openMeans, sizedOf}
 use Rattle.histogram.specs.Promise.{AskPromise, FlipPromise, IncrementPromise, OpenPromise}
 use Rattle.histogram.specs.Repeat.{is-new}
 use Rattle.histogram.specs.Runs.{Call, increment, flip, ask, acceptedBy, callMeans, clearedBy, isNew, total}

@@ -53,7 +53,8 @@ returns-2 : tie.Need-returns-2
 returns-2 c =
     let a = c .before .before .before .before .before .before .before .before .before .before .args in
     asked (a .memory .now) (a .state) (a .number) (a .window)
-    (passed (c .before .before .before .before .before .before .before .before .fitting .ensures) (c .before .before .before .before .before .before .before .if1 .left))
+    (passed (c .before .before .before .before .before .before .before .before .fitting .ensures)
+    (c .before .before .before .before .before .before .before .if1 .left))
     (c .before .before .before .before .before .before .turn-of .ensures) (c .before .before .before .before .enum-told .given .1) _ _
     (c .before .before .new-ask .ensures)
 

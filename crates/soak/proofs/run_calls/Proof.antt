@@ -36,8 +36,12 @@ loop-again c = (
   c .before .before .audit .ensures .0,
   c .before .before .audit .kept .0 ∙ c .before .before .before .before .before .before .play-one .kept .0 ∙ c .before .before .before .before
       .before .before .before .before .before .before .loop .inv .1,
-  omega
-      (arith, c .before .before .audit .ensures .1, c .before .before .before .before .before .before .play-one .ensures .1, c .before .before .before .before .before .before .before .before .read-order .ensures .0),
+  omega (
+    arith,
+    c .before .before .audit .ensures .1,
+    c .before .before .before .before .before .before .play-one .ensures .1,
+    c .before .before .before .before .before .before .before .before .read-order .ensures .0,
+  ),
   c .before .before .before .before .before .before .before .before .read-order .ensures .1,
 )
 

@@ -37,7 +37,12 @@ row-start-requires c κs = omega arith
 sound-row-requires : tie.Need-sound-row-requires Inv-loop μ-loop
 sound-row-requires c κs =
     rw (c .row-start .ensures .0)
-    (row-within (c .before .before .before .before .before .before .args .window .address) (c .before .before .before .before .before .before .args .window .xsize + c .before .before .before .before .before .before .args .window .ystride) (c .before .before .loop .row) (c .before .before .before .before .before .before .args .window .ysize) (c .before .before .before .before .before .before .args .window .xsize) _ (c .before .loop-test .taken) (c .before .before .before .before .before .before .pre))
+    (row-within (c .before .before .before .before .before .before .args .window .address)
+    (c .before .before .before .before .before .before .args .window .xsize +
+    c .before .before .before .before .before .before .args .window .ystride) (c .before .before .loop .row)
+    (c .before .before .before .before .before .before .args .window .ysize)
+    (c .before .before .before .before .before .before .args .window .xsize) _ (c .before .loop-test .taken)
+    (c .before .before .before .before .before .before .pre))
 
 both-requires : tie.Need-both-requires Inv-loop μ-loop
 both-requires c κs = search needs

@@ -46,7 +46,8 @@ loop-again c =
       omega arith,
       c .before .before .visit .kept .0 ∙ c .before .before .before .before .before .before .loop .inv .1,
       walk-cell (a .page) (a .clear) (record { memory = a .memory .now; sum = a .sum })
-          (c .before .before .before .before .before .before .loop .memory) (c .before .before .before .before .before .before .loop .total) (a .start)
+          (c .before .before .before .before .before .before .loop .memory) (c .before .before .before .before .before .before .loop .total)
+          (a .start)
           (c .before .before .before .before .before .before .loop .column) _ _ _ (c .before .before .before .before .before .before .loop .inv .2)
           (c .before .before .before .before .place .ensures .0) (c .before .before .visit .ensures .0) (c .before .before .visit .ensures .2),
       omega (arith, c .before .before .visit .ensures .1),

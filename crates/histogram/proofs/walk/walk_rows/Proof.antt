@@ -42,7 +42,12 @@ row-start-requires c κs = omega arith
 walk-row-requires : tie.Need-walk-row-requires Inv-loop μ-loop
 walk-row-requires c κs = (
   rw (c .before .row-start .ensures .0, c .before .before .before .loop .inv .1)
-      (row-within (c .before .before .before .before .before .before .before .args .window .address) (c .before .before .before .before .before .before .before .args .window .xsize + c .before .before .before .before .before .before .before .args .window .ystride) (c .before .before .before .loop .row) (c .before .before .before .before .before .before .before .args .window .ysize) (c .before .before .before .before .before .before .before .args .window .xsize) _ (c .before .before .loop-test .taken) (c .before .before .before .before .before .before .before .pre)),
+      (row-within (c .before .before .before .before .before .before .before .args .window .address)
+      (c .before .before .before .before .before .before .before .args .window .xsize +
+      c .before .before .before .before .before .before .before .args .window .ystride) (c .before .before .before .loop .row)
+      (c .before .before .before .before .before .before .before .args .window .ysize)
+      (c .before .before .before .before .before .before .before .args .window .xsize) _ (c .before .before .loop-test .taken)
+      (c .before .before .before .before .before .before .before .pre)),
   omega arith,
   omega arith,
 )

@@ -20,14 +20,19 @@ expect-requires : tie.Need-expect-requires
 expect-requires c κs =
     let a = c .before .before .before .before .before .before .before .before .before .before .args in
     says-again _ _ (a .book) _ _
-    (repeated _ _ (a .book) (a .number) (a .sum) (a .window) _ (c .before .before .before .before .before .before .before .before .before .before .pre .0) (c .before .before .before .before .before .before .before .before .before .before .pre .1) (c .before .before .before .before .ask .ensures))
+    (repeated _ _ (a .book) (a .number) (a .sum) (a .window) _
+    (c .before .before .before .before .before .before .before .before .before .before .pre .0)
+    (c .before .before .before .before .before .before .before .before .before .before .pre .1) (c .before .before .before .before .ask .ensures))
     (c .is-again .ensures)
 
 expect-requires-2 : tie.Need-expect-requires-2
 expect-requires-2 c κs =
     let a = c .before .before .before .before .before .before .before .before .before .before .before .before .before .args in
     same-words _ _ (a .book) _ _
-    (repeated _ _ (a .book) (a .number) (a .sum) (a .window) _ (c .before .before .before .before .before .before .before .before .before .before .before .before .before .pre .0) (c .before .before .before .before .before .before .before .before .before .before .before .before .before .pre .1) (c .before .before .before .before .before .before .before .ask .ensures))
+    (repeated _ _ (a .book) (a .number) (a .sum) (a .window) _
+    (c .before .before .before .before .before .before .before .before .before .before .before .before .before .pre .0)
+    (c .before .before .before .before .before .before .before .before .before .before .before .before .before .pre .1)
+    (c .before .before .before .before .before .before .before .ask .ensures))
 
 same-flag-requires : tie.Need-same-flag-requires
 same-flag-requires c κs = search needs
@@ -36,19 +41,31 @@ expect-requires-3 : tie.Need-expect-requires-3
 expect-requires-3 c κs =
     let a = c .before .before .before .before .before .before .before .before .before .before .before .before .before .before .before .args in
     same-page _ _ (a .book) _ _
-    (repeated _ _ (a .book) (a .number) (a .sum) (a .window) _ (c .before .before .before .before .before .before .before .before .before .before .before .before .before .before .before .pre .0) (c .before .before .before .before .before .before .before .before .before .before .before .before .before .before .before .pre .1) (c .before .before .before .before .before .before .before .before .before .ask .ensures))
+    (repeated _ _ (a .book) (a .number) (a .sum) (a .window) _
+    (c .before .before .before .before .before .before .before .before .before .before .before .before .before .before .before .pre .0)
+    (c .before .before .before .before .before .before .before .before .before .before .before .before .before .before .before .pre .1)
+    (c .before .before .before .before .before .before .before .before .before .ask .ensures))
     (c .same-flag .ensures)
 
 held-requires-2 : tie.Need-held-requires-2
 held-requires-2 c κs =
-    omega
-    (arith, c .before .before .before .before .before .before .before .before .before .before .before .ask .kept .0, holds-small _ _ (c .before .before .before .before .before .before .before .before .before .before .before .before .before .before .before .before .before .pre .0))
+    omega (
+      arith,
+      c .before .before .before .before .before .before .before .before .before .before .before .ask .kept .0,
+      holds-small _ _
+          (c .before .before .before .before .before .before .before .before .before .before .before .before .before .before .before .before .before .pre .0),
+    )
 
 expect-requires-4 : tie.Need-expect-requires-4
 expect-requires-4 c κs =
-    let a = c .before .before .before .before .before .before .before .before .before .before .before .before .before .before .before .before .before .before .args in
+    let a
+    = c .before .before .before .before .before .before .before .before .before .before .before .before .before .before .before .before .before .before .args
+    in
     same-held _ _ (a .book) _ _
-    (repeated _ _ (a .book) (a .number) (a .sum) (a .window) _ (c .before .before .before .before .before .before .before .before .before .before .before .before .before .before .before .before .before .before .pre .0) (c .before .before .before .before .before .before .before .before .before .before .before .before .before .before .before .before .before .before .pre .1) (c .before .before .before .before .before .before .before .before .before .before .before .before .ask .ensures))
+    (repeated _ _ (a .book) (a .number) (a .sum) (a .window) _
+    (c .before .before .before .before .before .before .before .before .before .before .before .before .before .before .before .before .before .before .pre .0)
+    (c .before .before .before .before .before .before .before .before .before .before .before .before .before .before .before .before .before .before .pre .1)
+    (c .before .before .before .before .before .before .before .before .before .before .before .before .ask .ensures))
     (c .held2 .ensures)
     (c .before .before .before .before .before .before .before .before .before .before .before .before .before .before .held .ensures)
 
@@ -59,7 +76,10 @@ returns : tie.Need-returns
 returns c =
     let a = c .before .before .before .before .before .before .before .before .before .before .before .before .before .before .before .before .before .before .before .args in (
       still-holds _ _ (a .book) _ _
-          (repeated _ _ (a .book) (a .number) (a .sum) (a .window) _ (c .before .before .before .before .before .before .before .before .before .before .before .before .before .before .before .before .before .before .before .pre .0) (c .before .before .before .before .before .before .before .before .before .before .before .before .before .before .before .before .before .before .before .pre .1) (c .before .before .before .before .before .before .before .before .before .before .before .before .before .ask .ensures))
+          (repeated _ _ (a .book) (a .number) (a .sum) (a .window) _
+          (c .before .before .before .before .before .before .before .before .before .before .before .before .before .before .before .before .before .before .before .pre .0)
+          (c .before .before .before .before .before .before .before .before .before .before .before .before .before .before .before .before .before .before .before .pre .1)
+          (c .before .before .before .before .before .before .before .before .before .before .before .before .before .ask .ensures))
           (c .before .before .before .before .before .before .before .before .before .before .before .before .before .before .before .before .before .before .before .pre .0),
       refl,
     )

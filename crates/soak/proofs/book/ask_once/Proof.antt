@@ -19,8 +19,13 @@ handed-of-requires c κs = search needs
 add-cleared : tie.Need-add-cleared
 add-cleared c =
     let a = c .before .before .before .before .before .before .before .before .before .before .args in
-    omega
-    (arith, handed-held _ _ (a .book) (a .number) _ (a .window) _ (c .before .before .before .before .before .before .before .before .before .before .pre .0) (c .before .before .before .before .before .before .ask .ensures) (c .before .handed-of .ensures), c .before .before .before .before .before .before .before .before .before .before .pre .1)
+    omega (
+      arith,
+      handed-held _ _ (a .book) (a .number) _ (a .window) _
+          (c .before .before .before .before .before .before .before .before .before .before .pre .0)
+          (c .before .before .before .before .before .before .ask .ensures) (c .before .handed-of .ensures),
+      c .before .before .before .before .before .before .before .before .before .before .pre .1,
+    )
 
 remembered-of-requires : tie.Need-remembered-of-requires
 remembered-of-requires c κs = search needs
@@ -33,7 +38,8 @@ returns c =
     let a = c .before .before .before .before .before .before .before .before .before .before .before .args in (
       after-ask _ _ (a .book) (a .number) _ (a .window) _ _
           (c .before .before .before .before .before .before .before .before .before .before .before .pre .0)
-          (c .before .before .before .before .before .before .before .ask .ensures) (c .before .before .handed-of .ensures) (c .remembered-of .ensures),
+          (c .before .before .before .before .before .before .before .ask .ensures) (c .before .before .handed-of .ensures)
+          (c .remembered-of .ensures),
       refl,
     )
 
