@@ -10,10 +10,13 @@ use Rattle.histogram.specs.Promise.{FlipPromise}
 use Rattle.histogram.specs.declared.State.{State}
 use Rattle.histogram.specs.declared.FlipAnswer.{FlipAnswer}
 
-pub exchange13 : (m : List ℕ) (s : State) → fittingOf (length m) s ≡ false → FlipPromise m s (record { answer = FlipAnswer.WrongMemory; state = s })
+-- refused: the memory does not fit
+pub flips13 : (m : List ℕ) (s : State) → fittingOf (length m) s ≡ false → FlipPromise m s (record { answer = FlipAnswer.WrongMemory; state = s })
 unfolding flipMeans
-exchange13 m s h = record { answer = rw h; state = rw h }
+flips13 m s h = record { answer = rw h; state = rw h }
 
-pub exchange : (m : List ℕ) (s : State) → fittingOf (length m) s ≡ true → FlipPromise m s (record { answer = FlipAnswer.Exchanged; state = exchanged s })
+-- accepted: active and idle exchanged
+pub flips : (m : List ℕ) (s : State) → fittingOf (length m) s ≡ true → (t : State) → t ≡ exchanged s
+    → FlipPromise m s (record { answer = FlipAnswer.Exchanged; state = t })
 unfolding flipMeans
-exchange m s h = record { answer = rw h; state = rw h }
+flips m s h t e = record { answer = rw h; state = rw (h, e) }

@@ -20,8 +20,10 @@ pub fill-end : (m m₀ : List ℕ) (i : ℕ) → m ≡ replicate i 0 ++ drop i m
 fill-end m m₀ i e h =
     e ∙ ap (λ (l : List ℕ). replicate i 0 ++ l) (drop-of-length-le m₀ {i = i} (omega arith)) ∙ append-nil (replicate i 0) ∙ ap (λ (n : ℕ). replicate n 0) h
 
+-- refused: the length is none that opening takes
 pub opened13 : (m : List ℕ) → sizedOf (length m) ≡ false → OpenPromise m Opened.WrongMemory m
 opened13 m h = record { answer = rw h; memory = rw h }
 
+-- accepted: zeros and the fresh state
 pub opened : (m after : List ℕ) → sizedOf (length m) ≡ true → after ≡ replicate (length m) 0 → OpenPromise m (Opened.Ready (fresh (length m))) after
 opened m after h e = record { answer = rw h; memory = rw h e }

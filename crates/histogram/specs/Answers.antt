@@ -16,11 +16,13 @@ abbrev pub openedPaper : Opened → Paper State
 openedPaper (Opened.Ready s) = accepted s
 openedPaper Opened.WrongMemory = refused 13
 
+-- the way back from opening's paper
 abbrev pub openedBack : Paper State → Opened
 openedBack (accepted s) = Opened.Ready s
 openedBack (refused n) = Opened.WrongMemory
 openedBack (refusedWith n x) = Opened.WrongMemory
 
+-- there and back is where it began
 pub opened-home : (a : Opened) → openedBack (openedPaper a) ≡ a
 opened-home (Opened.Ready s) = refl
 opened-home Opened.WrongMemory = refl
@@ -33,6 +35,7 @@ incrementPaper IncrementAnswer.WrongAddress = refused 14
 incrementPaper IncrementAnswer.Full = refused 15
 incrementPaper IncrementAnswer.AboveFull = refused 16
 
+-- the way back from an increment's paper
 abbrev pub incrementBack : Paper Value → IncrementAnswer
 incrementBack (accepted v) = IncrementAnswer.Counted
 incrementBack (refused n) =
@@ -41,6 +44,7 @@ incrementBack (refused n) =
     (pick (eqb n 15) IncrementAnswer.Full IncrementAnswer.AboveFull))
 incrementBack (refusedWith n x) = IncrementAnswer.WrongMemory
 
+-- there and back is where it began
 pub increment-home : (a : IncrementAnswer) → incrementBack (incrementPaper a) ≡ a
 increment-home IncrementAnswer.Counted = refl
 increment-home IncrementAnswer.WrongMemory = refl
@@ -53,11 +57,13 @@ abbrev pub flipPaper : FlipAnswer → Paper Value
 flipPaper FlipAnswer.Exchanged = accepted done
 flipPaper FlipAnswer.WrongMemory = refused 13
 
+-- the way back from a flip's paper
 abbrev pub flipBack : Paper Value → FlipAnswer
 flipBack (accepted v) = FlipAnswer.Exchanged
 flipBack (refused n) = FlipAnswer.WrongMemory
 flipBack (refusedWith n x) = FlipAnswer.WrongMemory
 
+-- there and back is where it began
 pub flip-home : (a : FlipAnswer) → flipBack (flipPaper a) ≡ a
 flip-home FlipAnswer.Exchanged = refl
 flip-home FlipAnswer.WrongMemory = refl
@@ -72,6 +78,7 @@ askPaper AskAnswer.AboveFull = refused 16
 askPaper AskAnswer.OutOfTurn = refused 17
 askPaper AskAnswer.OtherWindow = refused 18
 
+-- the way back from an ask's paper
 abbrev pub askBack : Paper Value → AskAnswer
 askBack (accepted done) = AskAnswer.WrongMemory
 askBack (accepted (new sum)) = AskAnswer.New sum
@@ -83,6 +90,7 @@ askBack (refused n) =
     (pick (eqb n 17) AskAnswer.OutOfTurn AskAnswer.OtherWindow)))
 askBack (refusedWith n x) = AskAnswer.WrongMemory
 
+-- there and back is where it began
 pub ask-home : (a : AskAnswer) → askBack (askPaper a) ≡ a
 ask-home (AskAnswer.New sum) = refl
 ask-home (AskAnswer.Again sum) = refl

@@ -11,7 +11,7 @@ use borrow.Author.Tests.{eqb-true, ne-eqb}
 use Rattle.ground.specs.Choice.{pick-elim}
 use Rattle.ground.specs.Paper.{accepted, refused}
 use Rattle.histogram.specs.Fresh.{is-opened, opened-fits}
-use Rattle.histogram.specs.Meaning.{new, askMeans, fittingOf, nextOf, openMeans, openLeaves, sameOf, turnOf}
+use Rattle.histogram.specs.Meaning.{new, askMeans, fittingOf, nextOf, openMeans, sameOf, turnOf}
 use Rattle.histogram.specs.Runs.{Call, ask, Ledger, NoNew, answered, opening, run, step}
 use Rattle.histogram.specs.declared.Window.{Window}
 use Rattle.histogram.specs.declared.Kept.{Kept}
@@ -31,6 +31,7 @@ turnNumber (Last k v sum) = nextOf k
 pub after-65535 : nextOf 65535 ≡ 0
 after-65535 = refl
 
+-- one more after every other number
 pub after-others : (n : ℕ) → (n ≡ 65535 → ⊥) → nextOf n ≡ n + 1
 after-others n h = rw (ne-eqb n 65535 h)
 
@@ -74,8 +75,17 @@ pub nothing-kept : (m : List ℕ) (s : State) (number : ℕ) (w : Window) → fi
 unfolding askMeans
 nothing-kept m s number w f k h = rw (f, k, ne-eqb number 1 h)
 
--- after opening every number but 1 is out of turn, 0 among them
-pub out-of-turn : (m : List ℕ) (s : State) → openMeans m ≡ accepted s → (number : ℕ) (w : Window) → (number ≡ 1 → ⊥)
-    → askMeans (openLeaves m) s number w .answer ≡ refused 17
-out-of-turn m s o number w h =
-    nothing-kept (openLeaves m) s number w (opened-fits m s o) (ap (λ (t : State). t .kept) (is-opened m s o .state)) h
+-- after opening, and whatever calls with no new ask among them, every number but 1 is out of turn
+pub out-of-turn : (m : List ℕ) (s : State) → openMeans m ≡ accepted s → (cs : List Call) → NoNew (opening m s) cs → (number : ℕ) (w : Window) → (number ≡ 1 → ⊥)
+    → answered (run (opening m s) cs) (ask number w) .answer ≡ refused 17
+out-of-turn m s o cs n number w h =
+    let r = run-stays (opening m s) cs n in
+    nothing-kept (run (opening m s) cs .memory) (run (opening m s) cs .state) number w
+    (r .0 ∙ opened-fits m s o)
+    (r .1 ∙ ap (λ (t : State). t .kept) (is-opened m s o .state))
+    h
+
+-- "After opening nothing is kept and number 0 is out of turn"
+pub zero-out-of-turn : (m : List ℕ) (s : State) → openMeans m ≡ accepted s → (cs : List Call) → NoNew (opening m s) cs → (w : Window)
+    → answered (run (opening m s) cs) (ask 0 w) .answer ≡ refused 17
+zero-out-of-turn m s o cs n w = out-of-turn m s o cs n 0 w (λ e. omega arith)

@@ -3,10 +3,11 @@ mod layout;
 mod turn;
 mod walk;
 
+ghost use mathlib.Core.Bool.{not};
 ghost use mathlib.Core.Path.{_≡_};
 ghost use lib.ListN.{length, replicate};
 ghost use Rattle.ground.specs.Paper.{numberOf};
-ghost use Rattle.histogram.specs.Meaning.{sizedOf, fittingOf, keeping, newMeans};
+ghost use Rattle.histogram.specs.Meaning.{sizedOf, fittingOf, exchanged, keeping, newMeans};
 ghost use Rattle.histogram.specs.Answers.{openedPaper, incrementPaper, flipPaper, askPaper};
 ghost use Rattle.histogram.specs.Promise.{OpenPromise, IncrementPromise, FlipPromise, AskPromise, askedOf};
 use layout::place;
@@ -128,8 +129,7 @@ pub fn increment(memory: &mut [u32], state: State, address: u32) -> Incremented
             state,
         };
     }
-    let second = state.second;
-    let at = place(words, second, address as usize);
+    let at = place(words, active_page(state), address as usize);
     let word = memory[at];
     if FULL < word {
         return Incremented {
@@ -160,14 +160,9 @@ pub fn flip(memory: &[u32], state: State) -> Flipped
             state,
         };
     }
-    let kept = state.kept;
     Flipped {
         answer: FlipAnswer::Exchanged,
-        state: State {
-            words: state.words,
-            second: !state.second,
-            kept,
-        },
+        state: exchange(state),
     }
 }
 
@@ -259,6 +254,32 @@ fn fitting(words: usize, state: State) -> bool
     words == state.words
 }
 
+// The active page: whether it is the second.
+fn active_page(state: State) -> bool
+    ensures { λ r. ⌜ r ≡ state .second ⌝ }
+{
+    state.second
+}
+
+// The idle page: whether it is the second.
+fn idle_page(state: State) -> bool
+    ensures { λ r. ⌜ r ≡ not (state .second) ⌝ }
+{
+    !state.second
+}
+
+// The state with active and idle exchanged.
+fn exchange(state: State) -> State
+    ensures { λ r. ⌜ r ≡ exchanged state ⌝ }
+{
+    let kept = state.kept;
+    State {
+        words: state.words,
+        second: !state.second,
+        kept,
+    }
+}
+
 // Sets every word to 0.
 fn clear_all(memory: &mut [u32])
     ensures { λ r. ⌜ now (memory .exit) ≡ replicate (length (now (memory .entry))) 0 ⌝ }
@@ -277,7 +298,7 @@ fn new_ask(memory: &mut [u32], state: State, number: u16, window: Window) -> Ask
     if memory.len() / 2 <= last_cell(window) {
         return not_asked(AskAnswer::WrongCell, state);
     }
-    let idle = !state.second;
+    let idle = idle_page(state);
     if !sound_rows(memory, idle, window) {
         return not_asked(AskAnswer::AboveFull, state);
     }

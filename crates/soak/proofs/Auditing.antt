@@ -56,11 +56,12 @@ repeated m after b number sum w made h k p =
       state = p .state ∙ ap (λ (o : Outcome). o .state) e;
     }
 
--- the halves of two tests that both hold
+-- the first of two tests that both hold
 both-left : (a b : Bool) → (a && b) ≡ true → a ≡ true
 both-left true b h = refl
 both-left false b h = h
 
+-- the second of two tests that both hold
 both-right : (a b : Bool) → (a && b) ≡ true → b ≡ true
 both-right true b h = h
 both-right false b h = absurd (let z : _≡_ {A = ℕ} 0 1 = cc in omega arith)

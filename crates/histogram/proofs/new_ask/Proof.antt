@@ -18,6 +18,9 @@ returns c =
     asked14 (a .memory .now) (a .state) (a .number) (a .window) (c .before .before .last-cell .ensures) (c .before .if1 .taken) _
     (c .not-asked .ensures)
 
+idle-page-requires : tie.Need-idle-page-requires
+idle-page-requires c κs = search needs
+
 sound-rows-requires : tie.Need-sound-rows-requires
 sound-rows-requires c κs = search needs
 
@@ -31,8 +34,8 @@ returns-2 : tie.Need-returns-2
 returns-2 c =
     let a = c .before .before .before .before .before .before .before .before .args in
     asked16 (a .memory .now) (a .state) (a .number) (a .window) (c .before .before .before .before .before .before .last-cell .ensures)
-    (c .before .before .before .before .before .if1 .left) (refused (c .before .before .sound-rows .ensures) (c .before .if2 .taken)) _
-    (c .not-asked2 .ensures)
+    (c .before .before .before .before .before .if1 .left) (c .before .before .before .before .idle-page .ensures)
+    (refused (c .before .before .sound-rows .ensures) (c .before .if2 .taken)) _ (c .not-asked2 .ensures)
 
 walk-rows-requires : tie.Need-walk-rows-requires
 walk-rows-requires c κs = search needs
@@ -49,6 +52,7 @@ returns-3 c =
     walked (a .memory .now) (a .state) (a .number) (a .window)
     (c .before .before .before .before .before .before .before .before .before .before .last-cell .ensures)
     (c .before .before .before .before .before .before .before .before .before .if1 .left)
+    (c .before .before .before .before .before .before .before .before .idle-page .ensures)
     (passed (c .before .before .before .before .before .before .sound-rows .ensures) (c .before .before .before .before .before .if2 .left)) _ _ _
     (c .before .before .before .walk-rows .ensures) (c .keep .ensures)
 
@@ -59,6 +63,7 @@ new-ask-spec =
     last-cell-requires
     not-asked-requires
     returns
+    idle-page-requires
     sound-rows-requires
     not-asked-requires-2
     same-length
