@@ -4,7 +4,7 @@ ghost use Prim.Native.Nat.{_/_, _<_};
 ghost use Rattle.histogram.specs.Layout.{placeOf};
 
 // The place of an address of a page.
-pub fn place(words: usize, second: bool, address: usize) -> usize
+pub(crate) fn place(words: usize, second: bool, address: usize) -> usize
     requires { ⌜ address < words / 2 ⌝ }
     ensures { λ r. ⌜ (r ≡ placeOf words second address) × (r < words) ⌝ }
 {

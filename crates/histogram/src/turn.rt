@@ -13,7 +13,7 @@ pub enum Turn {
 }
 
 // What an ask's number and window make it, beside what is kept.
-pub fn turn_of(kept: Kept, number: u16, window: Window) -> Turn
+pub(crate) fn turn_of(kept: Kept, number: u16, window: Window) -> Turn
     ensures { λ r. ⌜ r ≡ turnOf kept number window ⌝ }
 {
     match kept {

@@ -11,14 +11,14 @@ use crate::Window;
 use crate::layout::place;
 
 // The address of a window's last cell.
-pub fn last_cell(window: Window) -> usize
+pub(crate) fn last_cell(window: Window) -> usize
     ensures { λ r. ⌜ r ≡ lastOf window ⌝ }
 {
     row_start(window, window.ysize as usize) + (window.xsize as usize)
 }
 
 // Whether every word of a window is at most full.
-pub fn sound_rows(memory: &[u32], page: bool, window: Window) -> bool
+pub(crate) fn sound_rows(memory: &[u32], page: bool, window: Window) -> bool
     requires { ⌜ lastOf window < length (now memory) / 2 ⌝ }
     ensures { λ r. ⌜ r ≡ soundOf (now (memory .entry)) page (cellsOf window) ⌝ }
 {
@@ -35,7 +35,7 @@ pub fn sound_rows(memory: &[u32], page: bool, window: Window) -> bool
 }
 
 // Visits every cell of a window in order, and answers the sum.
-pub fn walk_rows(memory: &mut [u32], page: bool, window: Window) -> u64
+pub(crate) fn walk_rows(memory: &mut [u32], page: bool, window: Window) -> u64
     requires { ⌜ lastOf window < length (now memory) / 2 ⌝ }
     ensures { λ r. ⌜ record { memory = now (memory .exit); sum = r } ≡ walkOf page (window .clear) (record { memory = now (memory .entry); sum = 0 }) (cellsOf window) ⌝ }
 {
