@@ -52,7 +52,7 @@ fn feed() -> Vec<Vec<u8>> {
     code::blocks(&mut random, &mut all);
     format::blocks(&mut random, &mut all);
     cadence::blocks(&mut all);
-    // code::reading_blocks(&mut random, &mut all);
+    code::reading_blocks(&mut random, &mut all);
     all
 }
 
