@@ -1,0 +1,4 @@
+pub mod Meaning
+pub mod Cases
+pub mod BitLists
+pub mod Shapes
