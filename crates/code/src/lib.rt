@@ -1,1 +1,56 @@
 // Packed codes: numbers to bits and back, at any bit position of lent bytes, with drop 0 or 3.
+mod read;
+
+ghost use mathlib.Core.Path.{_≡_};
+ghost use Rattle.ground.specs.Paper.{numberOf};
+ghost use Rattle.code.specs.Meaning.{dropTaken};
+ghost use Rattle.code.specs.Answers.{unpackedPaper};
+ghost use Rattle.code.specs.Promise.{UnpackPromise};
+
+// What reading a code answers: the number and the next bit position, or why there is none.
+pub enum Unpacked {
+    Number { value: i32, next: u64 },
+    OutsideRule,
+    RanOut,
+    RedundantZero,
+    RunTooLong,
+}
+
+// The code at a bit position of bytes: its number and the position after it.
+pub fn unpack(bytes: &[u8], at: u64, drop: u8) -> Unpacked
+    ensures { λ r. ⌜ UnpackPromise (now (bytes .entry)) at drop r ⌝ }
+{
+    if drop_taken(drop) {
+        let end = read::end_of(bytes);
+        read::code(bytes, at, end, wide(drop))
+    } else {
+        Unpacked::OutsideRule
+    }
+}
+
+// Document 01's number of what reading answered, 0 where a number was read.
+pub fn unpacked_number(a: Unpacked) -> u8
+    ensures { λ r. ⌜ r ≡ numberOf (unpackedPaper a) ⌝ }
+{
+    match a {
+        Unpacked::Number { value: _, next: _ } => 0,
+        Unpacked::OutsideRule => 8,
+        Unpacked::RanOut => 9,
+        Unpacked::RedundantZero => 10,
+        Unpacked::RunTooLong => 11,
+    }
+}
+
+// Only drop 0 and drop 3 are taken.
+fn drop_taken(drop: u8) -> bool
+    ensures { λ r. ⌜ r ≡ dropTaken drop ⌝ }
+{
+    if drop == 0 { true } else { drop == 3 }
+}
+
+// A drop as the number that widths are made of.
+fn wide(drop: u8) -> u32
+    ensures { λ r. ⌜ r ≡ drop ⌝ }
+{
+    drop as u32
+}
