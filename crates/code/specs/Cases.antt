@@ -6,7 +6,7 @@ use Prim.Native.Nat.{ℕ}
 use lib.IntN.{ℤ, pos, negsuc}
 use lib.ListN.{length}
 use Rattle.ground.specs.Paper.{accepted, refused}
-use Rattle.code.specs.Meaning.{codeOf, decoded, unpackMeans, packMeans, packLeaves, shapeOf, leadingIn, parse, afterSign, bytesFrom}
+use Rattle.code.specs.Meaning.{codeOf, decoded, unpackMeans, packMeans, packLeaves, shapeOf, leadingIn, parse, afterSign, bytesFrom, counted}
 
 -- the starred cases of packed codes
 pub record CodeCases : Type 0 where
@@ -42,10 +42,10 @@ code-cases =
 
 -- 100 read at bit 8, with another code's bits before it
 reads-hundred : unpackMeans (0b11110000 ∷ 0b10110110 ∷ 0 ∷ []) 8 0 ≡ accepted (record { value = pos 99; next = 17 })
-unfolding parse afterSign
+unfolding parse afterSign counted
 reads-hundred = refl
 
 -- 100 written at bit 5 of ones: the bits before it stay, the rest of its last byte is 0, later bytes stay
 writes-hundred : packLeaves (255 ∷ 255 ∷ 255 ∷ 255 ∷ []) 5 (pos 100) 0 ≡ 0b11111101 ∷ 0b10110000 ∷ 255 ∷ 255 ∷ []
-unfolding shapeOf leadingIn bytesFrom
+unfolding shapeOf leadingIn bytesFrom counted
 writes-hundred = refl

@@ -88,7 +88,7 @@ least-coded zero = omega arith
 least-coded (suc d) = omega arith
 
 -- both drops leave every big shape a field
-drop-small : {d : ℕ} → Drop d → d ≤ 3
+pub drop-small : {d : ℕ} → Drop d → d ≤ 3
 drop-small none = omega arith
 drop-small three = omega arith
 

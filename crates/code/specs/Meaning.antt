@@ -147,16 +147,20 @@ unlessZero d ranOut = ranOut
 unlessZero d redundantZero = redundantZero
 unlessZero d runTooLong = runTooLong
 
--- what follows the parity bit
-abbrev pub afterParity : ℕ → ℕ → ℕ → List ℕ → Parsed
-afterParity d s ones [] = ranOut
-afterParity d s ones (p ∷ l) = field (ones + 1 - d) (big s ones p) l
+-- what follows the parity
+abbrev pub bigField : ℕ → ℕ → ℕ → ℕ → List ℕ → Parsed
+bigField d s ones p l = field (ones + 1 - d) (big s ones p) l
+
+-- the parity, and what follows it
+abbrev pub parityThen : ℕ → ℕ → ℕ → List ℕ → Parsed
+parityThen d s ones [] = ranOut
+parityThen d s ones (p ∷ l) = bigField d s ones p l
 
 -- what follows the run of ones and its zero
 abbrev pub afterRun : ℕ → ℕ → ℕ → List ℕ → Parsed
 afterRun d s zero l = unlessZero d (field (4 - d) (small s) l)
 afterRun d s (suc zero) l = field (3 - d) (mid s) l
-afterRun d s (suc (suc ones)) l = afterParity d s (suc (suc ones)) l
+afterRun d s (suc (suc ones)) l = parityThen d s (suc (suc ones)) l
 
 -- the run of ones and its zero, so many ones having been seen
 unfoldable pub afterSign : ℕ → ℕ → ℕ → List ℕ → Parsed
@@ -172,7 +176,7 @@ parse d (suc b ∷ []) = ranOut
 parse d (suc b ∷ (s ∷ l)) = afterSign d s 0 l
 
 -- "Bits from position 2^63 on count as past the end": the bits that count
-abbrev pub counted : List ℕ → List ℕ
+unfoldable pub counted : List ℕ → List ℕ
 counted bytes = take (2 ^ 63) (bitsOf bytes)
 
 -- what stands at a bit position of bytes

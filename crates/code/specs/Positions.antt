@@ -16,10 +16,12 @@ use Rattle.code.specs.BitLists.{allBits, allBits-take, allBits-drop, all
 
 -- eight bits a byte count, but none from position 2^63 on
 pub length-counted : (bytes : List ℕ) → length (counted bytes) ≡ min (2 ^ 63) (8 * length bytes)
+unfolding counted
 length-counted bytes = length-take (2 ^ 63) (bitsOf bytes) ∙ ap (min (2 ^ 63)) (length-bitsOf bytes)
 
 -- what counts are bits
 pub allBits-counted : (bytes : List ℕ) → allBits (counted bytes)
+unfolding counted
 allBits-counted bytes = allBits-take (2 ^ 63) (bitsOf bytes) (allBits-bitsOf bytes)
 
 -- a bit of a number
@@ -63,6 +65,7 @@ counted-inside bytes at h = omega (arith, length-counted bytes)
 -- a bit that counts
 pub counted-bit : (bytes : List ℕ) (at : ℕ) → at < length (counted bytes)
     → getD (counted bytes) at 0 ≡ getD bytes (at / 8) 0 / 2 ^ (7 - at % 8) % 2
+unfolding counted
 counted-bit bytes at h =
     getD-take (2 ^ 63) (bitsOf bytes) at 0 (omega (arith, length-counted bytes))
     ∙ getD-bitsOf bytes at (counted-inside bytes at h)

@@ -12,7 +12,7 @@ use lib.Dec.{ltb, leb, eqb}
 use borrow.Author.Tests.{lt-ltb, le-ltb, ltb-true, ltb-false, eq-eqb, ne-eqb, eqb-true, eqb-false}
 use Rattle.ground.specs.Choice.{pick, pick-elim}
 use Rattle.ground.specs.Bits.{toBits, bitsOf}
-use Rattle.code.specs.Meaning.{Shape, nought, small, mid, big, Parsed, found, ranOut, redundantZero, runTooLong, longestRun, bits, coded, parse, afterSign, afterRun, afterParity, unlessZero, field, fromBits}
+use Rattle.code.specs.Meaning.{Shape, nought, small, mid, big, Parsed, found, ranOut, redundantZero, runTooLong, longestRun, bits, coded, parse, afterSign, afterRun, parityThen, unlessZero, field, fromBits}
 use Rattle.code.specs.BitLists.{allBits, allBits-take, allBits-drop, length-toBits, fromBits-toBits, toBits-fromBits, fromBits-lt}
 
 -- the two drops
@@ -56,7 +56,7 @@ not-redundant zero s x rest h = rw (ne-eqb x 0 (h refl))
 not-redundant (suc d) s x rest h = rw (ne-eqb (suc d) 0 (λ e. omega arith))
 
 -- after a run of two ones or more stands the parity
-run-then-parity : (d s ones : ℕ) (l : List ℕ) → 2 ≤ ones → afterRun d s ones l ≡ afterParity d s ones l
+run-then-parity : (d s ones : ℕ) (l : List ℕ) → 2 ≤ ones → afterRun d s ones l ≡ parityThen d s ones l
 run-then-parity d s zero l h = absurd (omega arith)
 run-then-parity d s (suc zero) l h = absurd (omega arith)
 run-then-parity d s (suc (suc ones)) l h = refl

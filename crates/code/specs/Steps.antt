@@ -3,7 +3,6 @@
 use mathlib.Core.Path.{_≡_}
 use mathlib.Core.List.{List}
 use Prim.Native.Nat.{ℕ, zero, suc, _+_, _-_, _^_, _<_, _≤_}
-use lib.IntN.{ℤ}
 use lib.ListN.{length, take, drop}
 use lib.Dec.{ltb}
 use Rattle.ground.specs.Choice.{pick}
@@ -18,10 +17,12 @@ restAnswer d end ranOut = refused 9
 restAnswer d end redundantZero = refused 10
 restAnswer d end runTooLong = refused 11
 
--- the answer to a field that ends the code
-abbrev pub fieldAnswer : ℕ → ℕ → (ℕ → ℤ) → List ℕ → Paper Taken
-fieldAnswer end w number l =
-    pick (ltb (length l) w) (refused 9) (accepted (record { value = number (fromBits (take w l)); next = end - length (drop w l) }))
+-- the answer to a field under a leading one: sign, what the leading one counts, width, bits left out
+abbrev pub normalAnswer : ℕ → ℕ → ℕ → ℕ → ℕ → List ℕ → Paper Taken
+normalAnswer end s lead w left l =
+    pick (ltb (length l) w)
+    (refused 9)
+    (accepted (record { value = signed s (lead + filled left (fromBits (take w l))); next = end - length (drop w l) }))
 
 -- the answer to a small field of zeros: drop 0 refuses it, drop 3 means 5
 abbrev pub zeroAnswer : ℕ → ℕ → ℕ → Paper Taken

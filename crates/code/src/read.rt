@@ -4,10 +4,10 @@ use crate::Unpacked;
 ghost use mathlib.Core.Path.{_≡_};
 ghost use Prim.Native.Nat.{ℕ, _+_, _-_, _*_, _/_, _%_, _^_, _<_, _≤_};
 ghost use lib.ListN.{length, getD, take, drop as dropped};
-ghost use Rattle.code.specs.Meaning.{counted, parse, afterSign, afterRun, fromBits, filled, signed, value, Shape, largest, longestRun};
+ghost use Rattle.code.specs.Meaning.{counted, parse, afterSign, afterRun, fromBits, filled, signed, bigField, largest, longestRun};
 ghost use Rattle.code.specs.Shapes.{Drop};
 ghost use Rattle.code.specs.Answers.{unpackedPaper};
-ghost use Rattle.code.specs.Steps.{restAnswer, fieldAnswer, zeroAnswer, BigPlace, NormalPlace};
+ghost use Rattle.code.specs.Steps.{restAnswer, normalAnswer, zeroAnswer, BigPlace, NormalPlace};
 
 // The longest run of ones that is taken.
 const LONGEST_RUN: u32 = 11;
@@ -132,7 +132,7 @@ fn small_zero(drop: u32, sign: u32, next: u64) -> Unpacked
 // A magnitude from 32 on, its run of ones and its parity having been read.
 fn big(bytes: &[u8], at: u64, end: u64, drop: u32, sign: u32, ones: u32, parity: u32) -> Unpacked
     requires { ⌜ BigPlace (now bytes) at end drop sign ones parity ⌝ }
-    ensures { λ r. ⌜ unpackedPaper r ≡ fieldAnswer end (ones + 1 - drop) (λ x. value drop (Shape.big sign ones parity x)) (dropped at (counted (now (bytes .entry)))) ⌝ }
+    ensures { λ r. ⌜ unpackedPaper r ≡ restAnswer drop end (bigField drop sign ones parity (dropped at (counted (now (bytes .entry))))) ⌝ }
 {
     normal(bytes, at, end, sign, 1 << (2 * ones + 1 + parity), ones + 1 - drop, ones + parity + drop)
 }
@@ -140,7 +140,7 @@ fn big(bytes: &[u8], at: u64, end: u64, drop: u32, sign: u32, ones: u32, parity:
 // A magnitude with a leading one: its field, and what is left out filled in.
 fn normal(bytes: &[u8], at: u64, end: u64, sign: u32, lead: u32, width: u32, left: u32) -> Unpacked
     requires { ⌜ NormalPlace (now bytes) at end sign lead width left ⌝ }
-    ensures { λ r. ⌜ unpackedPaper r ≡ fieldAnswer end width (λ x. signed sign (lead + filled left x)) (dropped at (counted (now (bytes .entry)))) ⌝ }
+    ensures { λ r. ⌜ unpackedPaper r ≡ normalAnswer end sign lead width left (dropped at (counted (now (bytes .entry)))) ⌝ }
 {
     if end - at < width as u64 {
         return Unpacked::RanOut;

@@ -1,56 +1,51 @@
+-- `code::read::after_run` meets its contract: no ones, one, or more with a parity.
+-- Assumes nothing.
+use mathlib.Core.Path.{_≡_, ap, sym, _∙_, subst}
+use Prim.Native.Nat.{ℕ}
+use native.Mathlib.Omega.{arith}
 use borrow.Author.Needs.{needs}
+use Rattle.code.specs.Magnitudes.{drop-small}
+use Rattle.code.proofs.Parts.{mid-place, mid-run, small-run, parity-out, parity-there}
 use Rattle.code.proofs.read.after_run.Statement.{statement}
 use Rattle.code.proofs.read.after_run.Tie as tie
-use Rattle.code.proofs.read.after_run.Reads as reads
-use Rattle.code.proofs.read.after_run.Lts as lts
-use Rattle.code.proofs.read.big.Reads as big-reads
-use Rattle.code.proofs.read.bit_wide.Reads as bit-wide-reads
-use Rattle.code.proofs.read.normal.Reads as normal-reads
-use Rattle.code.proofs.read.small.Reads as small-reads
 
--- src/read.rt:92:9
 small-requires : tie.Need-small-requires
 small-requires c κs = search needs
 
--- src/read.rt:92:9
 returns : tie.Need-returns
-returns c = ?
+returns c = c .small .ensures ∙ small-run _ _ _ _ _ (c .before .if1 .taken)
 
--- src/read.rt:95:49
 sub-normal : tie.Need-sub-normal
-sub-normal c = ?
+sub-normal c = drop-small (c .before .before .before .pre .1)
 
--- src/read.rt:95:59
 add-normal : tie.Need-add-normal
-add-normal c = ?
+add-normal c = omega (arith, drop-small (c .before .before .before .pre .1))
 
--- src/read.rt:95:9
 normal-requires : tie.Need-normal-requires
-normal-requires c κs = ?
+normal-requires c κs =
+    let p = c .before .before .before .pre in
+    mid-place _ _ _ _ _ (p .0) (p .3) (p .1) (p .2)
 
--- src/read.rt:95:9
 returns-2 : tie.Need-returns-2
-returns-2 c = ?
+returns-2 c = c .normal .ensures ∙ mid-run _ _ _ _ _ (c .before .if2 .taken)
 
--- src/read.rt:98:9
 returns-3 : tie.Need-returns-3
-returns-3 c = ?
+returns-3 c =
+    parity-out _ _ _ _ _ _ (c .before .before .before .before .pre .0) (c .if3 .taken) (c .before .before .if1 .left) (c .before .if2 .left)
 
--- src/read.rt:100:9
 bit-wide-requires : tie.Need-bit-wide-requires
 bit-wide-requires c κs = search needs
 
--- src/read.rt:101:16
 add-big : tie.Need-add-big
 add-big c = search needs
 
--- src/read.rt:101:5
 big-requires : tie.Need-big-requires
 big-requires c κs = search needs
 
--- src/read.rt:87:1
 returns-4 : tie.Need-returns-4
-returns-4 c = ?
+returns-4 c =
+    c .big .ensures
+    ∙ parity-there _ _ _ _ _ _ _ (c .before .before .before .before .before .before .pre .0) (c .before .before .if3 .left) (c .before .before .before .before .if1 .left) (c .before .before .before .if2 .left) (c .before .bit-wide .ensures .0)
 
 pub after-run-spec : {M : Type 1} → statement M
 after-run-spec =

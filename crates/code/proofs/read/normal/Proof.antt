@@ -1,43 +1,42 @@
+-- `code::read::normal` meets its contract: the field is there or bits ran out, and whatever it holds is inside the rule.
+-- Assumes nothing.
+use mathlib.Core.Path.{ap, _∙_}
+use native.Mathlib.Omega.{arith}
 use borrow.Author.Needs.{needs}
+use Rattle.code.specs.Answers.{unpackedPaper}
+use Rattle.code.proofs.Parts.{normal-out, normal-there}
 use Rattle.code.proofs.read.normal.Statement.{statement}
 use Rattle.code.proofs.read.normal.Tie as tie
-use Rattle.code.proofs.read.normal.Reads as reads
-use Rattle.code.proofs.read.normal.Lts as lts
-use Rattle.code.proofs.read.field.Reads as field-reads
-use Rattle.code.proofs.read.fill.Reads as fill-reads
-use Rattle.code.proofs.read.number.Reads as number-reads
 
--- src/read.rt:145:8
 sub-if1 : tie.Need-sub-if1
 sub-if1 c = search needs
 
--- src/read.rt:146:9
 returns : tie.Need-returns
-returns c = ?
+returns c = normal-out _ _ _ _ _ _ _ (c .before .before .pre .end-is) (c .if1 .taken)
 
--- src/read.rt:148:9
 field-requires : tie.Need-field-requires
 field-requires c κs = search needs
 
--- src/read.rt:149:25
 fill-requires : tie.Need-fill-requires
-fill-requires c κs = ?
+fill-requires c κs =
+    let p = c .before .before .before .pre in
+    (p .few, omega (arith, p .fits (c .field .result) (c .field .ensures .1)))
 
--- src/read.rt:149:18
 add-number : tie.Need-add-number
-add-number c = ?
+add-number c = omega (arith, c .before .before .before .before .pre .fits (c .before .field .result) (c .before .field .ensures .1))
 
--- src/read.rt:149:40
 add-number-2 : tie.Need-add-number-2
 add-number-2 c = search needs
 
--- src/read.rt:149:5
 number-requires : tie.Need-number-requires
-number-requires c κs = ?
+number-requires c κs = omega (arith, c .before .before .before .before .pre .fits (c .before .field .result) (c .before .field .ensures .1))
 
--- src/read.rt:141:1
 returns-2 : tie.Need-returns-2
-returns-2 c = ?
+returns-2 c =
+    let p = c .before .before .before .before .before .pre in
+    ap unpackedPaper (c .number .ensures)
+    ∙ normal-there _ _ _ _ _ _ _ (p .end-is) (c .before .before .field .result) _ (p .inside) (c .before .before .before .if1 .left)
+    (c .before .before .field .ensures .0) (c .before .fill .ensures)
 
 pub normal-spec : {M : Type 1} → statement M
 normal-spec =

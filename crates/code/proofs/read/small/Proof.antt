@@ -1,60 +1,64 @@
+-- `code::read::small` meets its contract: bits ran out, zeros, or a magnitude under 16.
+-- Assumes nothing.
+use mathlib.Core.Path.{ap, _∙_}
+use native.Mathlib.Omega.{arith}
 use borrow.Author.Needs.{needs}
+use Rattle.code.specs.Answers.{unpackedPaper}
+use Rattle.code.specs.Magnitudes.{drop-small}
+use Rattle.code.proofs.Parts.{small-out, small-zeros, small-number, small-fits}
+use mathlib.Core.Path.{refl}
 use Rattle.code.proofs.read.small.Statement.{statement}
 use Rattle.code.proofs.read.small.Tie as tie
-use Rattle.code.proofs.read.small.Reads as reads
-use Rattle.code.proofs.read.small.Lts as lts
-use Rattle.code.proofs.read.field.Reads as field-reads
-use Rattle.code.proofs.read.fill.Reads as fill-reads
-use Rattle.code.proofs.read.number.Reads as number-reads
-use Rattle.code.proofs.read.small_zero.Reads as small-zero-reads
 
--- src/read.rt:109:17
 sub-width : tie.Need-sub-width
-sub-width c = ?
+sub-width c = omega (arith, drop-small (c .before .pre .1))
 
--- src/read.rt:110:8
 sub-if1 : tie.Need-sub-if1
 sub-if1 c = search needs
 
--- src/read.rt:110:19
 cast-if1 : tie.Need-cast-if1
 cast-if1 c = search needs
 
--- src/read.rt:111:9
 returns : tie.Need-returns
-returns c = ?
+returns c = small-out _ _ _ _ _ (c .before .before .pre .0) (c .if1 .taken)
 
--- src/read.rt:113:9
 field-requires : tie.Need-field-requires
 field-requires c κs = search needs
 
--- src/read.rt:114:21
 cast-next : tie.Need-cast-next
 cast-next c = search needs
 
--- src/read.rt:114:16
 add-next : tie.Need-add-next
 add-next c = search needs
 
--- src/read.rt:116:9
 small-zero-requires : tie.Need-small-zero-requires
 small-zero-requires c κs = search needs
 
--- src/read.rt:116:9
 returns-2 : tie.Need-returns-2
-returns-2 c = ?
+returns-2 c =
+    let p = c .before .before .before .before .before .pre in
+    let f = c .before .before .field in
+    c .small-zero .ensures
+    ∙ small-zeros _ _ _ _ _ (f .result) (p .1) (p .0) (p .3) (c .before .before .before .if1 .left) (f .ensures .0) (c .before .if2 .taken)
 
--- src/read.rt:118:18
 fill-requires : tie.Need-fill-requires
-fill-requires c κs = ?
+fill-requires c κs =
+    let p = c .before .before .before .before .pre in
+    let f = c .before .field in
+    (omega (arith, drop-small (p .1)), omega (arith, small-fits _ (f .result) _ (p .1) (f .ensures .1) refl))
 
--- src/read.rt:118:5
 number-requires : tie.Need-number-requires
-number-requires c κs = ?
+number-requires c κs =
+    let f = c .before .before .field in
+    omega (arith, small-fits _ (f .result) (c .fill .result) (c .before .before .before .before .before .pre .1) (f .ensures .1) (c .fill .ensures))
 
--- src/read.rt:105:1
 returns-3 : tie.Need-returns-3
-returns-3 c = ?
+returns-3 c =
+    let p = c .before .before .before .before .before .before .pre in
+    let f = c .before .before .before .field in
+    ap unpackedPaper (c .number .ensures)
+    ∙ small-number _ _ _ _ _ (f .result) _ (p .1) (p .0) (p .3) (c .before .before .before .before .if1 .left) (f .ensures .0) (c .before .before .if2 .left)
+    (c .before .fill .ensures)
 
 pub small-spec : {M : Type 1} → statement M
 small-spec =
