@@ -7,15 +7,17 @@ use Prim.Native.Nat.{ℕ, zero, suc, _+_, _*_, _-_, _/_, _%_, _^_, _<_, _≤_}
 use native.Mathlib.Nat.{mod-eq-of-lt}
 use native.Mathlib.Numerals.{add-one}
 use native.Mathlib.Omega.{arith}
-use lib.ListN.{length, length-drop, take, drop, getD, drop-of-length-le}
+use lib.ListN.{length, length-append, length-drop, take, drop, getD, drop-of-length-le}
 use lib.Seq.{drop-cons}
 use lib.Pow.{pow-pos, pow-mono}
 use lib.Dec.{ltb, eqb}
 use borrow.Author.Tests.{lt-ltb, le-ltb, eq-eqb, ne-eqb}
 use Rattle.ground.specs.Choice.{pick}
 use Rattle.ground.specs.Paper.{Paper, accepted, refused}
-use Rattle.code.specs.Meaning.{Shape, small, mid, big, Parsed, found, ranOut, redundantZero, runTooLong, Taken, counted, fromBits, filled, signed, value, magnitude, field, bigField, parityThen, unlessZero, afterRun, afterSign, parse, largest, longestRun}
-use Rattle.code.specs.Shapes.{Drop, none, three, Valid}
+use Rattle.code.specs.Meaning.{Shape, small, mid, big, Parsed, found, ranOut, redundantZero, runTooLong, Taken, counted, fromBits, filled, signed, value, magnitude, field, bigField, parityThen, unlessZero, afterRun, afterSign, parse, parseAt, bits, answerOf, unpackMeans, dropTaken, largest, longestRun}
+use Rattle.code.specs.Shapes.{Drop, none, three, Valid, Exact, parse-exact, bits-some}
+use Rattle.code.specs.BitLists.{allBits-drop}
+use Rattle.code.specs.Positions.{allBits-counted}
 use Rattle.code.specs.Magnitudes.{magnitude-fits, drop-small}
 use Rattle.code.specs.Steps.{restAnswer, normalAnswer, zeroAnswer, NormalPlace, BigPlace}
 
@@ -52,7 +54,7 @@ rest-is d end w s lead left shape l same = go (ltb (length l) w)
   where
     go : (t : Bool)
         → pick t (refused 9) (accepted (record { value = signed s (lead + filled left (fromBits (take w l))); next = end - length (drop w l) }))
-          ≡ restAnswer d end (pick t ranOut (found (shape (fromBits (take w l))) (drop w l)))
+        ≡ restAnswer d end (pick t ranOut (found (shape (fromBits (take w l))) (drop w l)))
     go true = refl
     go false = ap (λ (z : lib.IntN.ℤ). accepted (record { value = z; next = end - length (drop w l) })) (sym (same (fromBits (take w l))))
 
@@ -82,7 +84,7 @@ mid-place bytes at end d s e a dr hs =
       inside = a;
       narrow = omega arith;
       few = omega (arith, drop-small dr);
-      fits = λ x hx. magnitude-fits d (mid s x) dr (hs, hx)
+      fits = λ x hx. magnitude-fits d (mid s x) dr (hs, hx);
     }
 
 -- where a big field is read
@@ -95,8 +97,8 @@ big-place bytes at end d s ones p b =
       narrow = omega arith;
       few = omega (arith, drop-small (b .taken));
       fits = λ x hx.
-        subst (λ (n : ℕ). n + filled (ones + p + d) x ≤ largest) (sym (shift-is (2 * ones + 1 + p) (omega arith)))
-        (magnitude-fits d (big s ones p x) (b .taken) (b .sign, b .two, b .run, b .parity, hx))
+          subst (λ (n : ℕ). n + filled (ones + p + d) x ≤ largest) (sym (shift-is (2 * ones + 1 + p) (omega arith)))
+          (magnitude-fits d (big s ones p x) (b .taken) (b .sign, b .two, b .run, b .parity, hx));
     }
 
 -- a small field that bits ran out of
@@ -136,7 +138,7 @@ small-number l at end d s x f dr e a h p z q =
   where
     go : {d : ℕ} → Drop d
         → accepted (record { value = signed s (filled d x); next = end - length (drop (4 - d) (drop at l)) })
-          ≡ restAnswer d end (unlessZero d (found (small s x) (drop (4 - d) (drop at l))))
+        ≡ restAnswer d end (unlessZero d (found (small s x) (drop (4 - d) (drop at l))))
     go none = rw (ne-eqb x 0 z)
     go three = rw (ne-eqb x 0 z)
 
@@ -212,3 +214,66 @@ mid-run d end s ones l e = mid-is d end s l ∙ ap (λ (n : ℕ). restAnswer d e
 -- the answer to what the start means, by what it means here
 pub answer-by : (d end : ℕ) {p : Paper Taken} {x y z : Parsed} → x ≡ y → y ≡ z → p ≡ restAnswer d end z → p ≡ restAnswer d end x
 answer-by d end u v q = q ∙ ap (restAnswer d end) (sym (u ∙ v))
+
+-- no bit at the position
+pub code-out : (l : List ℕ) (at end d : ℕ) → end ≡ length l → end ≤ at → refused 9 ≡ restAnswer d end (parse d (drop at l))
+unfolding parse
+code-out l at end d e h = rw (drop-of-length-le l {i = at} (omega arith))
+
+module _ (l : List ℕ) (at end d b : ℕ) (end-is : end ≡ length l) (inside : at < end) (bit : b ≡ getD l at 0) where
+  -- a zero is nought
+  pub code-nought : b ≡ 0 → accepted (record { value = lib.IntN.pos 0; next = at + 1 }) ≡ restAnswer d end (parse d (drop at l))
+  unfolding parse
+  code-nought z =
+      let next : at + 1 ≡ end - length (drop (at + 1) l) = omega (arith, length-drop (at + 1) l) in
+      ap (λ (n : ℕ). accepted (record { value = lib.IntN.pos 0; next = n })) next
+      ∙ sym (ap (λ (k : List ℕ). restAnswer d end (parse d k))
+      (from-here l at end d 0 0 b end-is inside bit ∙ ap (λ (n : ℕ). n ∷ drop (at + 1) l) z))
+
+  -- a one, and then a sign
+  after-one : (b ≡ 0 → ⊥) → (n : ℕ) × (drop at l ≡ suc n ∷ drop (at + 1) l)
+  after-one h =
+      let o = one-is l at end d 0 0 b end-is inside bit h in
+      (o .0, from-here l at end d 0 0 b end-is inside bit ∙ ap (λ (n : ℕ). n ∷ drop (at + 1) l) (o .1))
+
+  -- no bit for the sign
+  pub sign-out : (b ≡ 0 → ⊥) → end ≤ at + 1 → refused 9 ≡ restAnswer d end (parse d (drop at l))
+  unfolding parse
+  sign-out h out =
+      let o = after-one h in
+      sym (ap (λ (k : List ℕ). restAnswer d end (parse d k)) (o .1 ∙ ap (λ (k : List ℕ). suc (o .0) ∷ k) (drop-of-length-le l {i = at + 1} (omega arith))))
+
+  -- the sign, and what follows it
+  pub sign-there : (s : ℕ) {p : Paper Taken} → (b ≡ 0 → ⊥) → at + 1 < end → s ≡ getD l (at + 1) 0
+      → p ≡ restAnswer d end (afterSign d s 0 (drop (at + 2) l)) → p ≡ restAnswer d end (parse d (drop at l))
+  unfolding parse
+  sign-there s h more q r =
+      let o = after-one h in
+      let two : suc (at + 1) ≡ at + 2 = omega arith in
+      r ∙ sym (ap (λ (k : List ℕ). restAnswer d end (parse d k))
+      (o .1 ∙ ap (λ (k : List ℕ). suc (o .0) ∷ k)
+      (drop-cons l (at + 1) 0 (omega arith) ∙ ap₂ _∷_ (sym q) (ap (λ (n : ℕ). drop n l) two))))
+
+-- the next position, told by what is left or by the code's length
+rest-answer : (d at end : ℕ) (l : List ℕ) (q : Parsed) → end ≡ length l → Exact d (drop at l) q → restAnswer d end q ≡ answerOf d at q
+rest-answer d at end l (found shape rest) e x =
+    let whole : length (drop at l) ≡ length (bits d shape) + length rest = ap length (x .0) ∙ length-append (bits d shape) rest in
+    let next : end - length rest ≡ at + length (bits d shape) = omega (arith, length-drop at l, bits-some d shape) in
+    ap (λ (n : ℕ). accepted (record { value = value d shape; next = n })) next
+rest-answer d at end l ranOut e x = refl
+rest-answer d at end l redundantZero e x = refl
+rest-answer d at end l runTooLong e x = refl
+
+-- what reading answers, where the drop is taken
+pub unpack-is : (bytes : List ℕ) (at d end w : ℕ) {p : Paper Taken} → dropTaken d ≡ true → end ≡ length (counted bytes) → w ≡ d
+    → p ≡ restAnswer w end (parse w (drop at (counted bytes))) → p ≡ unpackMeans bytes at d
+unpack-is bytes at d end w {p} t e q r =
+    r
+    ∙ ap (λ (n : ℕ). restAnswer n end (parse n (drop at (counted bytes)))) q
+    ∙ rest-answer d at end (counted bytes) (parse d (drop at (counted bytes))) e
+    (parse-exact d (drop at (counted bytes)) (allBits-drop at (counted bytes) (allBits-counted bytes)))
+    ∙ ap (λ (b : Bool). pick b (answerOf d at (parseAt bytes at d)) (refused 8)) (sym t)
+
+-- and where it is not
+pub unpack-refuses : (bytes : List ℕ) (at d : ℕ) → dropTaken d ≡ false → refused 8 ≡ unpackMeans bytes at d
+unpack-refuses bytes at d t = ap (λ (b : Bool). pick b (answerOf d at (parseAt bytes at d)) (refused 8)) (sym t)

@@ -91,11 +91,15 @@ fill-none left x e = subst (λ (n : ℕ). x ≡ filled n x) (sym e) (omega arith
 pub field-turn : (bytes : List ℕ) (at width i x b : ℕ) → i < width → at + width ≤ length (counted bytes) → width ≤ 16
     → x ≡ fromBits (take i (drop at (counted bytes))) → b ≡ getD (counted bytes) (at + i) 0
     → (i + 1 ≤ width) × (at + width ≤ length (counted bytes)) × (width ≤ 16)
-      × (x * 2 + b ≡ fromBits (take (i + 1) (drop at (counted bytes)))) × (x * 2 + b < 65536)
+    × (x * 2 + b ≡ fromBits (take (i + 1) (drop at (counted bytes)))) × (x * 2 + b < 65536)
 field-turn bytes at width i x b h fits few p q =
-    let e = field-more (counted bytes) at i x b (omega arith) p q in
-    (omega arith, fits, few, e,
-    subst (λ (n : ℕ). n < 65536) (sym e) (field-small (counted bytes) at (i + 1) (allBits-counted bytes) (omega arith) (omega arith)))
+    let e = field-more (counted bytes) at i x b (omega arith) p q in (
+      omega arith,
+      fits,
+      few,
+      e,
+      subst (λ (n : ℕ). n < 65536) (sym e) (field-small (counted bytes) at (i + 1) (allBits-counted bytes) (omega arith) (omega arith)),
+    )
 
 -- a field that was read whole
 pub field-done : (bytes : List ℕ) (at width i x : ℕ) → i ≤ width → width ≤ i → at + width ≤ length (counted bytes)

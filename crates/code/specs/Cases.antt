@@ -37,7 +37,7 @@ code-cases =
       four3 = refl;
       fourDecodes3 = refl;
       largestLength0 = refl;
-      tooLarge0 = refl
+      tooLarge0 = refl;
     }
 
 -- 100 read at bit 8, with another code's bits before it

@@ -72,9 +72,9 @@ leading-bounds (suc f) m a b =
     pick-elim (λ (k : ℕ). (2 ^ k ≤ m) × (m < 2 ^ suc k)) (ltb m 2) zero (suc (leadingIn f (m / 2)))
     (λ e. (a, ltb-true m 2 e))
     (λ e.
-      let big-enough : 2 ≤ m = ltb-false m 2 e in
-      let ih = leading-bounds f (m / 2) (omega arith) (omega (arith, pow-suc 2 (suc f))) in
-      (omega (arith, ih .0, pow-suc 2 (leadingIn f (m / 2))), omega (arith, ih .1, pow-suc 2 (suc (leadingIn f (m / 2))))))
+    let big-enough : 2 ≤ m = ltb-false m 2 e in
+    let ih = leading-bounds f (m / 2) (omega arith) (omega (arith, pow-suc 2 (suc f))) in
+    (omega (arith, ih .0, pow-suc 2 (leadingIn f (m / 2))), omega (arith, ih .1, pow-suc 2 (suc (leadingIn f (m / 2))))))
 
 -- below the leading one stands the remainder
 pub lead-rest : (k m : ℕ) → 2 ^ k ≤ m → m < 2 ^ suc k → m ≡ 2 ^ k + m % 2 ^ k
@@ -109,12 +109,12 @@ shape-elim P d s m on-nought on-small on-mid on-big =
     (pick (ltb m 16) (small s (m / 2 ^ d)) (pick (ltb m 32) (mid s (m % 16 / 2 ^ (1 + d))) (bigOf d s (leading m) m)))
     (λ e. on-nought (ltb-true m (leastCoded d) e))
     (λ a.
-      pick-elim P (ltb m 16) (small s (m / 2 ^ d)) (pick (ltb m 32) (mid s (m % 16 / 2 ^ (1 + d))) (bigOf d s (leading m) m))
-      (λ e. on-small (ltb-false m (leastCoded d) a) (ltb-true m 16 e))
-      (λ b.
-        pick-elim P (ltb m 32) (mid s (m % 16 / 2 ^ (1 + d))) (bigOf d s (leading m) m)
-        (λ e. on-mid (ltb-false m 16 b) (ltb-true m 32 e))
-        (λ e. on-big (ltb-false m 32 e))))
+    pick-elim P (ltb m 16) (small s (m / 2 ^ d)) (pick (ltb m 32) (mid s (m % 16 / 2 ^ (1 + d))) (bigOf d s (leading m) m))
+    (λ e. on-small (ltb-false m (leastCoded d) a) (ltb-true m 16 e))
+    (λ b.
+    pick-elim P (ltb m 32) (mid s (m % 16 / 2 ^ (1 + d))) (bigOf d s (leading m) m)
+    (λ e. on-mid (ltb-false m 16 b) (ltb-true m 32 e))
+    (λ e. on-big (ltb-false m 32 e))))
 
 -- a magnitude lies between the least and the greatest of its shape
 pub shape-bounds : (d s m : ℕ) → m < 2 ^ 32 → (lowest d (shapeOf d s m) ≤ m) × (m ≤ highest d (shapeOf d s m))
@@ -124,12 +124,13 @@ shape-bounds d s m fits =
     (λ a b. (omega (arith, cell m d .0), cell m d .1))
     (λ a b. (omega (arith, cell (m % 16) (1 + d) .0), omega (arith, cell (m % 16) (1 + d) .1)))
     (λ a.
-      let at = leading-bounds 31 m (omega arith) fits in
-      let five : 4 < leading m = exponent-lt-suc at.1 a in
-      bounds-big (leading m) five (at .0) (at .1))
+    let at = leading-bounds 31 m (omega arith) fits in
+    let five : 4 < leading m = exponent-lt-suc at.1 a in
+    bounds-big (leading m) five (at .0) (at .1))
   where
     exponent-lt-suc : m < 2 ^ suc (leading m) → 32 ≤ m → 4 < leading m
     exponent-lt-suc h a = let e : 5 < suc (leading m) = exponent-lt 5 (suc (leading m)) a h in omega arith
+
     bounds-big : (k : ℕ) → 4 < k → 2 ^ k ≤ m → m < 2 ^ suc k → (lowest d (bigOf d s k m) ≤ m) × (m ≤ highest d (bigOf d s k m))
     bounds-big k five a b =
         let e : ℕ = (k - 1) / 2 + (k - 1) % 2 + d in
@@ -145,18 +146,23 @@ shape-valid d s m dr hs fits =
     (λ a b. (hs, high-lt (4 - d) d 4 b (omega (arith, drop-small dr)), small-one dr a))
     (λ a b. (hs, high-lt (3 - d) (1 + d) 4 (mod-lt m (pow-pos 4)) (omega (arith, drop-small dr))))
     (λ a.
-      let at = leading-bounds 31 m (omega arith) (omega arith) in
-      let five : 5 < suc (leading m) = exponent-lt 5 (suc (leading m)) a (at .1) in
-      let top : leading m < 2 * longestRun + 3 = exponent-lt (leading m) (2 * longestRun + 3) (at .0) (omega arith) in
-      valid-big (leading m) (omega arith) top)
+    let at = leading-bounds 31 m (omega arith) (omega arith) in
+    let five : 5 < suc (leading m) = exponent-lt 5 (suc (leading m)) a (at .1) in
+    let top : leading m < 2 * longestRun + 3 = exponent-lt (leading m) (2 * longestRun + 3) (at .0) (omega arith) in
+    valid-big (leading m) (omega arith) top)
   where
     small-one : {d : ℕ} → Drop d → leastCoded d ≤ m → d ≡ 0 → m / 2 ^ d ≡ 0 → ⊥
     small-one none a p q = omega arith
     small-one three a p q = omega arith
+
     valid-big : (k : ℕ) → 4 < k → k < 2 * longestRun + 3 → Valid d (bigOf d s k m)
-    valid-big k five top =
-        (hs, omega arith, omega arith, omega arith,
-        high-lt ((k - 1) / 2 + 1 - d) ((k - 1) / 2 + (k - 1) % 2 + d) k (mod-lt m (pow-pos k)) (omega (arith, drop-small dr)))
+    valid-big k five top = (
+      hs,
+      omega arith,
+      omega arith,
+      omega arith,
+      high-lt ((k - 1) / 2 + 1 - d) ((k - 1) / 2 + (k - 1) % 2 + d) k (mod-lt m (pow-pos k)) (omega (arith, drop-small dr)),
+    )
 
 -- the magnitudes of a shape have that shape
 pub shape-is : (d : ℕ) (shape : Shape) (m : ℕ) → Drop d → Valid d shape → lowest d shape ≤ m → m ≤ highest d shape

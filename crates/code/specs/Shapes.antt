@@ -12,13 +12,38 @@ use lib.Dec.{ltb, leb, eqb}
 use borrow.Author.Tests.{lt-ltb, le-ltb, ltb-true, ltb-false, eq-eqb, ne-eqb, eqb-true, eqb-false}
 use Rattle.ground.specs.Choice.{pick, pick-elim}
 use Rattle.ground.specs.Bits.{toBits, bitsOf}
-use Rattle.code.specs.Meaning.{Shape, nought, small, mid, big, Parsed, found, ranOut, redundantZero, runTooLong, longestRun, bits, coded, parse, afterSign, afterRun, parityThen, unlessZero, field, fromBits}
+use Rattle.code.specs.Meaning.{Shape, nought, small, mid, big, Parsed, found, ranOut, redundantZero, runTooLong, longestRun, dropTaken, bits, coded, parse, afterSign, afterRun, parityThen, unlessZero, field, fromBits}
 use Rattle.code.specs.BitLists.{allBits, allBits-take, allBits-drop, length-toBits, fromBits-toBits, toBits-fromBits, fromBits-lt}
+
+-- the two truth values differ
+pub false-true : false ≡ true → ⊥
+false-true e = eqb-false 0 0 (sym e) refl
 
 -- the two drops
 pub data Drop : ℕ → Type 0 where
   none : Drop 0
   three : Drop 3
+
+-- a drop that is taken is one of the two
+pub drop-of : (d : ℕ) → dropTaken d ≡ true → Drop d
+drop-of d t = go (eqb d 0) refl (eqb d 3) refl t
+  where
+    go : (a : Bool) → eqb d 0 ≡ a → (b : Bool) → eqb d 3 ≡ b → pick a true b ≡ true → Drop d
+    go true e b f t = subst Drop (sym (eqb-true d 0 e)) none
+    go false e true f t = subst Drop (sym (eqb-true d 3 f)) three
+    go false e false f t = absurd (false-true t)
+
+-- both drops are taken
+pub drop-takes : {d : ℕ} → Drop d → dropTaken d ≡ true
+drop-takes none = refl
+drop-takes three = refl
+
+-- every code has a bit
+pub bits-some : (d : ℕ) (shape : Shape) → 1 ≤ length (bits d shape)
+bits-some d nought = omega arith
+bits-some d (small s x) = omega arith
+bits-some d (mid s x) = omega arith
+bits-some d (big s ones p x) = omega arith
 
 -- a shape that some bits are read as: its fields lie in their widths, its run is not too long, and it is no redundant zero
 abbrev pub Valid : ℕ → Shape → Type 0
@@ -91,13 +116,13 @@ field-elim P w shape l ok out then-found =
     pick-elim P (ltb (length l) w) ranOut (found (shape (fromBits (take w l))) (drop w l))
     (λ e. out)
     (λ e.
-      let long : length (take w l) ≡ w = length-take-le w l (ltb-false (length l) w e) in
-      let fine = allBits-take w l ok in
-      then-found (fromBits (take w l)) (drop w l)
-      (subst (λ (k : ℕ). fromBits (take w l) < 2 ^ k) long (fromBits-lt (take w l) fine))
-      (sym (take-append-drop w l)
-      ∙ ap (λ (k : List ℕ). k ++ drop w l)
-      (sym (subst (λ (k : ℕ). toBits k (fromBits (take w l)) ≡ take w l) long (toBits-fromBits (take w l) fine)))))
+    let long : length (take w l) ≡ w = length-take-le w l (ltb-false (length l) w e) in
+    let fine = allBits-take w l ok in
+    then-found (fromBits (take w l)) (drop w l)
+    (subst (λ (k : ℕ). fromBits (take w l) < 2 ^ k) long (fromBits-lt (take w l) fine))
+    (sym (take-append-drop w l)
+    ∙ ap (λ (k : List ℕ). k ++ drop w l)
+    (sym (subst (λ (k : ℕ). toBits k (fromBits (take w l)) ≡ take w l) long (toBits-fromBits (take w l) fine)))))
 
 -- both tests of a conjunction
 both : (a b : Bool) → a ≡ true → b ≡ true → (a && b) ≡ true
@@ -108,22 +133,20 @@ after-run-exact : (d s ones : ℕ) (l : List ℕ) → s < 2 → ones ≤ longest
 after-run-exact d s zero l hs h ok =
     field-elim (λ (q : Parsed). Exact d (coded s 0 l) (unlessZero d q)) (4 - d) (small s) l ok tt
     (λ x rest hx e.
-      pick-elim (Exact d (coded s 0 l)) (eqb d 0 && eqb x 0) redundantZero (found (small s x) rest)
-      (λ t. tt)
-      (λ t. (ap (coded s 0) e, (hs, hx, λ p q. false-true (sym t ∙ both (eqb d 0) (eqb x 0) (eq-eqb d 0 p) (eq-eqb x 0 q))))))
-  where
-    false-true : false ≡ true → ⊥
-    false-true e = eqb-false 0 0 (sym e) refl
+    pick-elim (Exact d (coded s 0 l)) (eqb d 0 && eqb x 0) redundantZero (found (small s x) rest)
+    (λ t. tt)
+    (λ t. (ap (coded s 0) e, (hs, hx, λ p q. false-true (sym t ∙ both (eqb d 0) (eqb x 0) (eq-eqb d 0 p) (eq-eqb x 0 q))))))
 after-run-exact d s (suc zero) l hs h ok =
     field-elim (Exact d (coded s 1 l)) (3 - d) (mid s) l ok tt
     (λ x rest hx e. (ap (coded s 1) e, (hs, hx)))
 after-run-exact d s (suc (suc ones)) [] hs h ok = tt
 after-run-exact d s (suc (suc ones)) (p ∷ l) hs h ok =
     field-elim (Exact d (coded s (suc (suc ones)) (p ∷ l))) (suc (suc ones) + 1 - d) (big s (suc (suc ones)) p) l (ok .1) tt
-    (λ x rest hx e.
-      (ap (λ (k : List ℕ). coded s (suc (suc ones)) (p ∷ k)) e
-      ∙ ap (λ (k : List ℕ). 1 ∷ s ∷ k) (sym (append-assoc (replicate (suc (suc ones)) 1) (0 ∷ (p ∷ toBits (suc (suc ones) + 1 - d) x)) rest)),
-      (hs, omega arith, h, ok .0, hx)))
+    (λ x rest hx e. (
+      ap (λ (k : List ℕ). coded s (suc (suc ones)) (p ∷ k)) e
+          ∙ ap (λ (k : List ℕ). 1 ∷ s ∷ k) (sym (append-assoc (replicate (suc (suc ones)) 1) (0 ∷ (p ∷ toBits (suc (suc ones) + 1 - d) x)) rest)),
+      (hs, omega arith, h, ok .0, hx),
+    ))
 
 -- one more of the same at the end of a repeat
 one-more : (n : ℕ) (l : List ℕ) → replicate n 1 ++ (1 ∷ l) ≡ replicate (suc n) 1 ++ l
@@ -139,8 +162,8 @@ after-sign-exact d s ones (zero ∷ l) hs h ok = after-run-exact d s ones l hs h
 after-sign-exact d s ones (suc zero ∷ l) hs h ok =
     pick-elim (Exact d (1 ∷ s ∷ (replicate ones 1 ++ (1 ∷ l)))) (ltb ones longestRun) (afterSign d s (suc ones) l) runTooLong
     (λ t.
-      rw (one-more ones l)
-      (after-sign-exact d s (suc ones) l hs (ltb-true ones longestRun t) (ok .1)))
+    rw (one-more ones l)
+    (after-sign-exact d s (suc ones) l hs (ltb-true ones longestRun t) (ok .1)))
     (λ t. tt)
 after-sign-exact d s ones (suc (suc b) ∷ l) hs h ok = absurd (omega arith)
 

@@ -1,6 +1,5 @@
 // Reading a code bit by bit: each function answers for what follows one part of the code.
 use crate::Unpacked;
-
 ghost use mathlib.Core.Path.{_≡_};
 ghost use Prim.Native.Nat.{ℕ, _+_, _-_, _*_, _/_, _%_, _^_, _<_, _≤_};
 ghost use lib.ListN.{length, getD, take, drop as dropped};
@@ -17,7 +16,11 @@ pub fn end_of(bytes: &[u8]) -> u64
     ensures { λ r. ⌜ r ≡ length (counted (now (bytes .entry))) ⌝ }
 {
     let n = bytes.len() as u64;
-    if n < 1152921504606846976 { n * 8 } else { 9223372036854775808 }
+    if n < 1152921504606846976 {
+        n * 8
+    } else {
+        9223372036854775808
+    }
 }
 
 // A bit of a byte, the most significant first.
@@ -54,7 +57,10 @@ pub fn code(bytes: &[u8], at: u64, end: u64, drop: u32) -> Unpacked
         return Unpacked::RanOut;
     }
     if bit(bytes, at) == 0 {
-        return Unpacked::Number { value: 0, next: at + 1 };
+        return Unpacked::Number {
+            value: 0,
+            next: at + 1,
+        };
     }
     if end <= at + 1 {
         return Unpacked::RanOut;
@@ -134,7 +140,15 @@ fn big(bytes: &[u8], at: u64, end: u64, drop: u32, sign: u32, ones: u32, parity:
     requires { ⌜ BigPlace (now bytes) at end drop sign ones parity ⌝ }
     ensures { λ r. ⌜ unpackedPaper r ≡ restAnswer drop end (bigField drop sign ones parity (dropped at (counted (now (bytes .entry))))) ⌝ }
 {
-    normal(bytes, at, end, sign, 1 << (2 * ones + 1 + parity), ones + 1 - drop, ones + parity + drop)
+    normal(
+        bytes,
+        at,
+        end,
+        sign,
+        1 << (2 * ones + 1 + parity),
+        ones + 1 - drop,
+        ones + parity + drop,
+    )
 }
 
 // A magnitude with a leading one: its field, and what is left out filled in.
@@ -168,7 +182,11 @@ fn fill(x: u32, left: u32) -> u32
     requires { ⌜ (left < 32) × (filled left x < 2 ^ 32) ⌝ }
     ensures { λ r. ⌜ r ≡ filled left x ⌝ }
 {
-    if left == 0 { x } else { (x << left) + ((1 << (left - 1)) - 1) }
+    if left == 0 {
+        x
+    } else {
+        (x << left) + ((1 << (left - 1)) - 1)
+    }
 }
 
 // The answer of a sign and a magnitude.
@@ -176,7 +194,10 @@ fn number(sign: u32, magnitude: u32, next: u64) -> Unpacked
     requires { ⌜ magnitude ≤ largest ⌝ }
     ensures { λ r. ⌜ r ≡ Unpacked.Number (signed sign magnitude) next ⌝ }
 {
-    Unpacked::Number { value: with_sign(sign, magnitude), next }
+    Unpacked::Number {
+        value: with_sign(sign, magnitude),
+        next,
+    }
 }
 
 // A magnitude, negated back where the sign is 1.
@@ -184,5 +205,9 @@ fn with_sign(sign: u32, magnitude: u32) -> i32
     requires { ⌜ magnitude ≤ largest ⌝ }
     ensures { λ r. ⌜ r ≡ signed sign magnitude ⌝ }
 {
-    if sign == 0 { magnitude as i32 } else { 0 - magnitude as i32 }
+    if sign == 0 {
+        magnitude as i32
+    } else {
+        0 - magnitude as i32
+    }
 }

@@ -60,11 +60,13 @@ loop-less c = omega arith
 loop-again : tie.Need-loop-again Inv-loop μ-loop
 loop-again c =
     let l = c .before .before .before .before .loop in
-    let b = c .before .before .bit in
-    (omega arith, omega arith,
-    l .inv .2
-    ∙ run-goes-on _ (l .here) _ _ _ _ (b .result) (c .before .before .before .before .before .before .pre .0) (c .before .before .before .loop-test .taken) (b .ensures .0)
-    (c .before .if1 .left) (c .if2 .left))
+    let b = c .before .before .bit in (
+      omega arith,
+      omega arith,
+      l .inv .2
+          ∙ run-goes-on _ (l .here) _ _ _ _ (b .result) (c .before .before .before .before .before .before .pre .0) (c .before .before .before .loop-test .taken) (b .ensures .0)
+          (c .before .if1 .left) (c .if2 .left),
+    )
 
 returns-3 : tie.Need-returns-3 Inv-loop μ-loop
 returns-3 c =

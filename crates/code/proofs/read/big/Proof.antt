@@ -2,6 +2,9 @@
 -- Assumes nothing.
 use mathlib.Core.Path.{_∙_}
 use native.Mathlib.Omega.{arith}
+use denote.Ref.{now}
+use lib.ListN.{drop as dropped}
+use Rattle.code.specs.Meaning.{counted}
 use borrow.Author.Needs.{needs}
 use Rattle.code.specs.Magnitudes.{drop-small}
 use Rattle.code.proofs.Parts.{big-place, big-is}
@@ -38,7 +41,8 @@ normal-requires c κs = big-place _ _ _ _ _ _ _ (c .before .pre)
 returns : tie.Need-returns
 returns c =
     let p = c .before .before .pre in
-    c .normal .ensures ∙ big-is _ _ _ _ _ _ (p .run) (p .parity)
+    let a = c .before .before .args in
+    c .normal .ensures ∙ big-is (a .drop) (a .end) (a .sign) (a .ones) (a .parity) (dropped (a .at) (counted (now (a .bytes)))) (p .run) (p .parity)
 
 pub big-spec : {M : Type 1} → statement M
 big-spec =

@@ -1,55 +1,51 @@
+-- `code::read::code` meets its contract: no bit, nought, no sign, or what follows the sign.
+-- Assumes nothing.
 use borrow.Author.Needs.{needs}
+use Rattle.code.proofs.Parts.{code-out, code-nought, sign-out, sign-there}
 use Rattle.code.proofs.read.code.Statement.{statement}
 use Rattle.code.proofs.read.code.Tie as tie
-use Rattle.code.proofs.read.code.Reads as reads
-use Rattle.code.proofs.read.code.Lts as lts
-use Rattle.code.proofs.read.after_sign.Reads as after-sign-reads
-use Rattle.code.proofs.read.bit.Reads as bit-reads
-use Rattle.code.proofs.read.bit_wide.Reads as bit-wide-reads
 
--- src/read.rt:54:9
 returns : tie.Need-returns
-returns c = ?
+returns c = code-out _ _ _ _ (c .before .before .pre .0) (c .if1 .taken)
 
--- src/read.rt:56:8
 bit-requires : tie.Need-bit-requires
 bit-requires c κs = search needs
 
--- src/read.rt:57:51
 add-t8 : tie.Need-add-t8
 add-t8 c = search needs
 
--- src/read.rt:57:9
 returns-2 : tie.Need-returns-2
-returns-2 c = ?
+returns-2 c =
+    let b = c .before .bit in
+    code-nought _ _ _ _ (b .result) (c .before .before .before .before .pre .0) (c .before .before .if1 .left) (b .ensures .0) (c .if2 .taken)
 
--- src/read.rt:59:15
 add-if3 : tie.Need-add-if3
 add-if3 c = search needs
 
--- src/read.rt:60:9
 returns-3 : tie.Need-returns-3
-returns-3 c = ?
+returns-3 c =
+    let b = c .before .before .bit in
+    sign-out _ _ _ _ (b .result) (c .before .before .before .before .before .pre .0) (c .before .before .before .if1 .left) (b .ensures .0) (c .before .if2 .left)
+    (c .if3 .taken)
 
--- src/read.rt:62:32
 add-bit-wide : tie.Need-add-bit-wide
 add-bit-wide c = search needs
 
--- src/read.rt:62:9
 bit-wide-requires : tie.Need-bit-wide-requires
 bit-wide-requires c κs = search needs
 
--- src/read.rt:63:23
 add-after-sign : tie.Need-add-after-sign
 add-after-sign c = search needs
 
--- src/read.rt:63:5
 after-sign-requires : tie.Need-after-sign-requires
 after-sign-requires c κs = search needs
 
--- src/read.rt:49:1
 returns-4 : tie.Need-returns-4
-returns-4 c = ?
+returns-4 c =
+    let b = c .before .before .before .before .bit in
+    let s = c .before .bit-wide in
+    sign-there _ _ _ _ (b .result) (c .before .before .before .before .before .before .before .pre .0) (c .before .before .before .before .before .if1 .left) (b .ensures .0)
+    (s .result) (c .before .before .before .if2 .left) (c .before .before .if3 .left) (s .ensures .0) (c .after-sign .ensures)
 
 pub code-spec : {M : Type 1} → statement M
 code-spec =

@@ -12,7 +12,9 @@ sub-if1 : tie.Need-sub-if1
 sub-if1 c = search needs
 
 returns : tie.Need-returns
-returns c = normal-out _ _ _ _ _ _ _ (c .before .before .pre .end-is) (c .if1 .taken)
+returns c =
+    let a = c .before .before .args in
+    normal-out _ (a .at) (a .end) (a .sign) (a .lead) (a .width) (a .left) (c .before .before .pre .end-is) (c .if1 .taken)
 
 field-requires : tie.Need-field-requires
 field-requires c κs = search needs
@@ -34,8 +36,10 @@ number-requires c κs = omega (arith, c .before .before .before .before .pre .fi
 returns-2 : tie.Need-returns-2
 returns-2 c =
     let p = c .before .before .before .before .before .pre in
+    let a = c .before .before .before .before .before .args in
     ap unpackedPaper (c .number .ensures)
-    ∙ normal-there _ _ _ _ _ _ _ (p .end-is) (c .before .before .field .result) _ (p .inside) (c .before .before .before .if1 .left)
+    ∙ normal-there _ (a .at) (a .end) (a .sign) (a .lead) (a .width) (a .left)
+    (p .end-is) (c .before .before .field .result) _ (p .inside) (c .before .before .before .if1 .left)
     (c .before .before .field .ensures .0) (c .before .fill .ensures)
 
 pub normal-spec : {M : Type 1} → statement M
