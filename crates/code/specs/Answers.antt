@@ -6,8 +6,27 @@ use lib.Dec.{eqb}
 use Rattle.ground.specs.Choice.{pick}
 use Rattle.ground.specs.Paper.{Paper, accepted, refused, refusedWith}
 use Rattle.code.specs.Meaning.{Taken}
+use Rattle.code.specs.declared.Packed.{Packed}
+use Rattle.code.specs.declared.Packed.the-variants.{Next, OutsideRule as PackedOutsideRule, TooShort}
 use Rattle.code.specs.declared.Unpacked.{Unpacked}
 use Rattle.code.specs.declared.Unpacked.the-variants.{Number, OutsideRule, RanOut, RedundantZero, RunTooLong}
+
+-- the next position; 8 or 3
+abbrev pub packedPaper : Packed → Paper ℕ
+packedPaper (Next next) = accepted next
+packedPaper PackedOutsideRule = refused 8
+packedPaper TooShort = refused 3
+
+-- the answer that a paper came from
+abbrev pub packedBack : Paper ℕ → Packed
+packedBack (accepted next) = Next next
+packedBack (refused n) = pick (eqb n 8) PackedOutsideRule TooShort
+packedBack (refusedWith n x) = TooShort
+
+pub packed-home : (a : Packed) → packedBack (packedPaper a) ≡ a
+packed-home (Next next) = refl
+packed-home PackedOutsideRule = refl
+packed-home TooShort = refl
 
 -- the number and the next position; 8, 9, 10 or 11
 abbrev pub unpackedPaper : Unpacked → Paper Taken

@@ -4,11 +4,14 @@ use mathlib.Core.Path.{_≡_}
 use mathlib.Core.List.{List}
 use Prim.Native.Nat.{ℕ, zero, suc, _+_, _-_, _^_, _<_, _≤_}
 use lib.ListN.{length, take, drop}
-use lib.Dec.{ltb}
+use lib.Dec.{ltb, leb}
 use Rattle.ground.specs.Choice.{pick}
 use Rattle.ground.specs.Paper.{Paper, accepted, refused}
-use Rattle.code.specs.Meaning.{Parsed, found, ranOut, redundantZero, runTooLong, Taken, value, signed, filled, fromBits, counted, largest, longestRun}
+use Rattle.code.specs.Meaning.{Parsed, found, ranOut, redundantZero, runTooLong, Taken, value, signed, filled, fromBits, counted, bytesWith, largest, longestRun}
+use Rattle.ground.specs.Bits.{toBits}
 use Rattle.code.specs.Shapes.{Drop}
+use Rattle.code.specs.Answers.{packedPaper}
+use Rattle.code.specs.declared.Packed.{Packed}
 
 -- the answer to what was found among so many bits
 abbrev pub restAnswer : ℕ → ℕ → Parsed → Paper Taken
@@ -46,3 +49,26 @@ pub record BigPlace (bytes : List ℕ) (at end d s ones p : ℕ) : Type 0 where
   pub two : 2 ≤ ones
   pub run : ones ≤ longestRun
   pub parity : p < 2
+
+-- the bits of a byte
+unfoldable pub byteBits : ℕ → List ℕ
+byteBits b = toBits 8 b
+
+-- a number that holds bits: so many, and these
+pub record Holds (number count : ℕ) (l : List ℕ) : Type 0 where
+  pub bits-are : toBits count number ≡ l
+  pub number-fits : number < 2 ^ count
+  pub few : count ≤ 33
+
+-- the answer to putting bits at a position
+abbrev pub placeMeans : List ℕ → ℕ → List ℕ → Paper ℕ
+placeMeans buffer at l = pick (leb (at + length l) (length (counted buffer))) (accepted (at + length l)) (refused 3)
+
+-- what putting bits at a position leaves
+abbrev pub placeLeaves : List ℕ → ℕ → List ℕ → List ℕ
+placeLeaves buffer at l = pick (leb (at + length l) (length (counted buffer))) (bytesWith buffer at l) buffer
+
+-- putting bits answers and leaves what it means
+pub record PlacePromise (buffer : List ℕ) (at : ℕ) (l : List ℕ) (r : Packed) (after : List ℕ) : Type 0 where
+  pub answer : packedPaper r ≡ placeMeans buffer at l
+  pub memory : after ≡ placeLeaves buffer at l
