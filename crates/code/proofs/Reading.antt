@@ -1,0 +1,111 @@
+-- Laws that the proofs of reading cite: numbers as the code computes them, and answers as parts of a code give them.
+-- Assumes nothing.
+use mathlib.Core.Path.{_≡_, refl, sym, ap, ap₂, _∙_, subst}
+use mathlib.Core.Bool.{Bool, true, false}
+use mathlib.Core.List.{List, [], _∷_, _++_}
+use Prim.Native.Nat.{ℕ, zero, suc, _+_, _*_, _-_, _/_, _%_, _^_, _<_, _≤_, min}
+use native.Mathlib.Nat.{mod-eq-of-lt, le-trans}
+use native.Mathlib.Numerals.{add-one}
+use native.Mathlib.Omega.{arith}
+use lib.IntN.{ℤ, pos, negsuc, negℤ, _-ℤ_, +ℤ-idl}
+use mir.Syntax.{w32}
+use mir.Val.{toZ, ofZ, SFits}
+use mir.ValLaws.{toZ-pos, toZ-ofZ}
+use Rattle.ground.specs.Paper.{accepted, refused}
+use lib.ListN.{length, length-take, length-drop, take, drop, getD}
+use lib.Seq.{getD-drop, take-suc, length-take-le}
+use lib.Pow.{pow-pos, pow-mono}
+use Rattle.code.specs.Meaning.{counted, fromBits, filled, signed, largest}
+use Rattle.code.specs.Steps.{zeroAnswer}
+use Rattle.code.specs.BitLists.{allBits, allBits-take, allBits-drop, fromBits-lt}
+use Rattle.code.specs.Positions.{fromBits-snoc, allBits-counted}
+
+-- one bit more of a field
+pub field-more : (l : List ℕ) (at i x b : ℕ) → at + i < length l → x ≡ fromBits (take i (drop at l)) → b ≡ getD l (at + i) 0
+    → x * 2 + b ≡ fromBits (take (i + 1) (drop at l))
+field-more l at i x b h p q =
+    ap₂ (λ (m n : ℕ). m * 2 + n) p (q ∙ sym (getD-drop at l i 0))
+    ∙ sym (fromBits-snoc (take i (drop at l)) (getD (drop at l) i 0))
+    ∙ ap fromBits (sym (take-suc (drop at l) i 0 (omega (arith, length-drop at l))))
+    ∙ ap (λ (n : ℕ). fromBits (take n (drop at l))) (sym (add-one i))
+
+-- a field lies in its width
+pub field-width : (l : List ℕ) (at i : ℕ) → allBits l → at + i ≤ length l → fromBits (take i (drop at l)) < 2 ^ i
+field-width l at i ok h =
+    subst (λ (n : ℕ). fromBits (take i (drop at l)) < 2 ^ n) (length-take-le i (drop at l) (omega (arith, length-drop at l)))
+    (fromBits-lt (take i (drop at l)) (allBits-take i (drop at l) (allBits-drop at l ok)))
+
+-- a field of at most 16 bits is under 65536
+pub field-small : (l : List ℕ) (at i : ℕ) → allBits l → at + i ≤ length l → i ≤ 16 → fromBits (take i (drop at l)) < 65536
+field-small l at i ok h few = omega (arith, field-width l at i ok h, pow-mono {i = i} {j = 16} few)
+
+-- a field and what is filled in, as shifts give it
+pub fill-shifts : (left x : ℕ) → 0 < left → left < 32 → filled left x < 2 ^ 32
+    → x * 2 ^ left % 2 ^ 32 + (1 * 2 ^ (left - 1) % 2 ^ 32 - 1) ≡ filled left x
+fill-shifts left x a b h =
+    let p : x * 2 ^ left < 2 ^ 32 = omega arith in
+    let q : 1 * 2 ^ (left - 1) < 2 ^ 32 = omega (arith, pow-mono {i = left - 1} {j = 31} (omega arith)) in
+    ap₂ (λ (m n : ℕ). m + (n - 1)) (mod-eq-of-lt p) (mod-eq-of-lt q) ∙ omega arith
+
+-- a power of two as a shift gives it, for one less
+pub shift-positive : (k : ℕ) → k < 32 → 1 ≤ 1 * 2 ^ k % 2 ^ 32
+shift-positive k h =
+    let q : 1 * 2 ^ k < 2 ^ 32 = omega (arith, pow-mono {i = k} {j = 31} (omega arith)) in
+    subst (λ (n : ℕ). 1 ≤ n) (sym (mod-eq-of-lt q)) (omega (arith, pow-pos k))
+
+-- a magnitude inside the rule is read back from its bits
+pub plus : (s m : ℕ) → s ≡ 0 → m ≤ largest → toZ w32 m ≡ signed s m
+plus s m e h = toZ-pos w32 m (omega arith) ∙ ap (λ (n : ℕ). signed n m) (sym e)
+
+-- nothing less a magnitude is its negation
+zero-less : (m : ℕ) → pos 0 -ℤ pos m ≡ negℤ (pos m)
+zero-less zero = refl
+zero-less (suc m) = +ℤ-idl (negsuc m)
+
+minus-is : (m : ℕ) → m ≤ largest → pos 0 -ℤ toZ w32 m ≡ negℤ (pos m)
+minus-is m h = ap (λ (z : ℤ). pos 0 -ℤ z) (toZ-pos w32 m (omega arith)) ∙ zero-less m
+
+-- a negation fits
+negated-fits : (m : ℕ) → m ≤ largest → SFits w32 (negℤ (pos m))
+negated-fits zero h = record { sfits = omega arith }
+negated-fits (suc m) h = record { sfits = omega arith }
+
+pub minus-fits : (m : ℕ) → m ≤ largest → SFits w32 (pos 0 -ℤ toZ w32 m)
+minus-fits m h = subst (SFits w32) (sym (minus-is m h)) (negated-fits m h)
+
+-- a magnitude negated back
+pub minus : (s m : ℕ) → (s ≡ 0 → ⊥) → m ≤ largest → toZ w32 (ofZ w32 (pos 0 -ℤ toZ w32 m)) ≡ signed s m
+minus zero m e h = absurd (e refl)
+minus (suc s) m e h = toZ-ofZ w32 (pos 0 -ℤ toZ w32 m) (minus-fits m h) ∙ minus-is m h
+
+-- a small field of zeros with drop 3
+pub five : (d s next : ℕ) → (d ≡ 0 → ⊥) → accepted (record { value = signed s 5; next = next }) ≡ zeroAnswer d s next
+five zero s next h = absurd (h refl)
+five (suc d) s next h = refl
+
+-- nothing left out: the field itself
+pub fill-none : (left x : ℕ) → left ≡ 0 → x ≡ filled left x
+fill-none left x e = subst (λ (n : ℕ). x ≡ filled n x) (sym e) (omega arith)
+
+-- one turn of reading a field
+pub field-turn : (bytes : List ℕ) (at width i x b : ℕ) → i < width → at + width ≤ length (counted bytes) → width ≤ 16
+    → x ≡ fromBits (take i (drop at (counted bytes))) → b ≡ getD (counted bytes) (at + i) 0
+    → (i + 1 ≤ width) × (at + width ≤ length (counted bytes)) × (width ≤ 16)
+    × (x * 2 + b ≡ fromBits (take (i + 1) (drop at (counted bytes)))) × (x * 2 + b < 65536)
+field-turn bytes at width i x b h fits few p q =
+    let e = field-more (counted bytes) at i x b (omega arith) p q in (
+      omega arith,
+      fits,
+      few,
+      e,
+      subst (λ (n : ℕ). n < 65536) (sym e) (field-small (counted bytes) at (i + 1) (allBits-counted bytes) (omega arith) (omega arith)),
+    )
+
+-- a field that was read whole
+pub field-done : (bytes : List ℕ) (at width i x : ℕ) → i ≤ width → width ≤ i → at + width ≤ length (counted bytes)
+    → x ≡ fromBits (take i (drop at (counted bytes)))
+    → (x ≡ fromBits (take width (drop at (counted bytes)))) × (x < 2 ^ width)
+field-done bytes at width i x a b fits p =
+    let e : i ≡ width = omega arith in
+    let f = p ∙ ap (λ (n : ℕ). fromBits (take n (drop at (counted bytes)))) e in
+    (f, subst (λ (n : ℕ). n < 2 ^ width) (sym f) (field-width (counted bytes) at width (allBits-counted bytes) fits))

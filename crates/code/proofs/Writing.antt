@@ -1,0 +1,313 @@
+-- Laws that the proofs of writing cite: a signed number's magnitude, a code's bits as a number, and bits put into bytes.
+-- Assumes nothing.
+use mathlib.Core.Path.{_≡_, refl, sym, ap, ap₂, _∙_, subst}
+use mathlib.Core.Bool.{Bool, true, false, _&&_}
+use mathlib.Core.List.{List, [], _∷_, _++_, append-assoc, append-nil}
+use Prim.Native.Nat.{ℕ, zero, suc, _+_, _*_, _-_, _/_, _%_, _^_, _<_, _≤_}
+use native.Mathlib.Nat.{mod-eq-of-lt, mod-lt, suc-add, add-suc, zero-add, pow-suc, mul-assoc, div-eq-of-lt}
+use native.Mathlib.Numerals.{add-one}
+use native.Mathlib.Omega.{arith}
+use lib.IntN.{ℤ, pos, negsuc, negℤ, natAbs, _-ℤ_}
+use lib.Signed.{ltZ, nonNeg}
+use lib.Count.{leadingZeros, leading-top}
+use lib.ListN.{length, length-append, length-drop, take, drop, getD, set, replicate}
+use lib.Seq.{set-at, set-append-left, paste, paste-suc, paste-zero, getD-drop}
+use lib.Pow.{pow-pos, pow-mono, pow-add, split, ones-lt, shl-lt}
+use lib.Arith.{digits-lt}
+use lib.Dec.{T, ltb, leb, eqb}
+use borrow.Author.Tests.{lt-ltb, le-ltb, le-leb, lt-leb, ltb-true, ltb-false}
+use mir.Syntax.{w32, w64}
+use mir.Val.{toZ, ofZ, SFits, Fits}
+use mir.ValLaws.{toZ-ofZ}
+use Rattle.ground.specs.Choice.{pick}
+use Rattle.ground.specs.Paper.{Paper, accepted, refused}
+use Rattle.ground.specs.Bits.{toBits, bitsOf}
+use Rattle.code.specs.Meaning.{Shape, nought, small, mid, big, bits, coded, shapeOf, bigOf, leading, leadingIn, leastCoded, signOf, counted, largest, longestRun}
+use Rattle.code.specs.BitLists.{length-toBits, length-bitsOf, toBits-join, toBits-ones, toBits-zeros}
+use Rattle.code.specs.Positions.{length-counted, getD-toBits}
+use Rattle.code.specs.Magnitudes.{leading-is, leading-bounds, exponent-lt, high-lt, field-lt, drop-small}
+use Rattle.code.specs.Shapes.{Drop, none, three}
+use Rattle.code.specs.Steps.{Holds, byteBits}
+
+-- ---- a signed number
+
+-- a number that fits 32 bits fits 64
+widened : (v : ℤ) → SFits w32 v → SFits w64 v
+widened (pos n) f = record { sfits = omega (arith, f .sfits) }
+widened (negsuc n) f = record { sfits = omega (arith, f .sfits) }
+
+-- a number as 64 bits hold it
+abbrev pub asWide : ℤ → ℤ
+asWide v = toZ w64 (ofZ w64 (toZ w32 (ofZ w32 v)))
+
+as-wide : (v : ℤ) → SFits w32 v → asWide v ≡ v
+as-wide v f = ap (λ (z : ℤ). toZ w64 (ofZ w64 z)) (toZ-ofZ w32 v f) ∙ toZ-ofZ w64 v (widened v f)
+
+pub cast-fits : (v : ℤ) → SFits w32 v → SFits w64 (toZ w32 (ofZ w32 v))
+cast-fits v f = subst (SFits w64) (sym (toZ-ofZ w32 v f)) (widened v f)
+
+-- a negative number
+negative : (v : ℤ) → ltZ v (pos 0) ≡ true → (n : ℕ) × (v ≡ negsuc n)
+negative (pos n) t = absurd (omega (arith, ltb-true n 0 t))
+negative (negsuc n) t = (n, refl)
+
+-- a number that is not negative
+natural : (v : ℤ) → ltZ v (pos 0) ≡ false → (n : ℕ) × (v ≡ pos n)
+natural (pos n) t = (n, refl)
+natural (negsuc n) t = absurd (Rattle.code.specs.Shapes.false-true (sym t))
+
+-- nothing less a negative number is its magnitude
+less-negative : (n : ℕ) → pos 0 -ℤ negsuc n ≡ pos (suc n)
+less-negative n = ap pos (zero-add (suc n))
+
+module _ (v : ℤ) (f : SFits w32 v) where
+  negated : ltZ (asWide v) (pos 0) ≡ true → (n : ℕ) × (v ≡ negsuc n) × (pos 0 -ℤ asWide v ≡ pos (suc n)) × (n < 2 ^ 31)
+  negated t =
+      let o = negative v (subst (λ (z : ℤ). ltZ z (pos 0) ≡ true) (as-wide v f) t) in
+      (o .0, o .1,
+      ap (λ (z : ℤ). pos 0 -ℤ z) (as-wide v f ∙ o .1) ∙ less-negative (o .0),
+      subst (SFits w32) (o .1) f .sfits)
+
+  pub negated-fits : ltZ (asWide v) (pos 0) ≡ true → SFits w64 (pos 0 -ℤ asWide v)
+  negated-fits t =
+      let o = negated t in
+      subst (SFits w64) (sym (o .2)) (record { sfits = omega (arith, o .3) })
+
+  negated-back : (t : ltZ (asWide v) (pos 0) ≡ true) → toZ w64 (ofZ w64 (pos 0 -ℤ asWide v)) ≡ pos (suc (negated t .0))
+  negated-back t = toZ-ofZ w64 (pos 0 -ℤ asWide v) (negated-fits t) ∙ negated t .2
+
+  pub negated-cast : ltZ (asWide v) (pos 0) ≡ true
+      → T (nonNeg (toZ w64 (ofZ w64 (pos 0 -ℤ asWide v)))) × Fits w32 (natAbs (toZ w64 (ofZ w64 (pos 0 -ℤ asWide v))))
+  negated-cast t =
+      let o = negated t in
+      subst (λ (z : ℤ). T (nonNeg z) × Fits w32 (natAbs z)) (sym (negated-back t)) (tt, record { fits = omega (arith, o .3) })
+
+  pub negated-is : ltZ (asWide v) (pos 0) ≡ true → natAbs (toZ w64 (ofZ w64 (pos 0 -ℤ asWide v))) ≡ natAbs v
+  negated-is t = ap natAbs (negated-back t) ∙ ap natAbs (sym (negated t .1))
+
+  pub natural-cast : ltZ (asWide v) (pos 0) ≡ false → T (nonNeg (asWide v)) × Fits w32 (natAbs (asWide v))
+  natural-cast t =
+      let o = natural v (subst (λ (z : ℤ). ltZ z (pos 0) ≡ false) (as-wide v f) t) in
+      subst (λ (z : ℤ). T (nonNeg z) × Fits w32 (natAbs z)) (sym (as-wide v f ∙ o .1))
+      (tt, record { fits = omega (arith, subst (SFits w32) (o .1) f .sfits) })
+
+  pub natural-is : natAbs (asWide v) ≡ natAbs v
+  natural-is = ap natAbs (as-wide v f)
+
+  pub sign-minus : ltZ (toZ w32 (ofZ w32 v)) (pos 0) ≡ true → (1 ≡ signOf v) × (1 < 2)
+  sign-minus t =
+      let o = negative v (subst (λ (z : ℤ). ltZ z (pos 0) ≡ true) (toZ-ofZ w32 v f) t) in
+      (ap signOf (sym (o .1)), omega arith)
+
+  pub sign-plus : ltZ (toZ w32 (ofZ w32 v)) (pos 0) ≡ false → (0 ≡ signOf v) × (0 < 2)
+  sign-plus t =
+      let o = natural v (subst (λ (z : ℤ). ltZ z (pos 0) ≡ false) (toZ-ofZ w32 v f) t) in
+      (ap signOf (sym (o .1)), omega arith)
+
+-- ---- a code's bits as a number
+
+-- the leading place of a big magnitude, as the count of zeros above it gives it
+pub leading-zeros : (m : ℕ) → 32 ≤ m → m ≤ largest
+    → (31 - leadingZeros 32 m ≡ leading m) × (5 ≤ 31 - leadingZeros 32 m) × (31 - leadingZeros 32 m < 2 * longestRun + 3)
+leading-zeros m a b =
+    let o = leading-top 32 m (omega arith) (omega arith) in
+    let j : ℕ = o .0 in
+    let e : 31 - leadingZeros 32 m ≡ j = omega (arith, o .1) in
+    let low : 5 < suc j = exponent-lt 5 (suc j) a (o .3) in
+    let top : j < 2 * longestRun + 3 = exponent-lt j (2 * longestRun + 3) (o .2) (omega arith) in
+    (e ∙ sym (leading-is 31 j m (omega arith) (o .2) (o .3)), omega arith, omega arith)
+
+pub leading-zeros-few : (m : ℕ) → 32 ≤ m → m ≤ largest → leadingZeros 32 m ≤ 31
+leading-zeros-few m a b = let o = leading-top 32 m (omega arith) (omega arith) in omega (arith, o .1)
+
+-- a power of two as a shift of 64 bits gives it
+wide-power : (k : ℕ) → k ≤ 40 → 1 * 2 ^ k % 2 ^ 64 ≡ 2 ^ k
+wide-power k h =
+    let q : 1 * 2 ^ k < 2 ^ 64 = omega (arith, pow-mono {i = k} {j = 40} h) in
+    mod-eq-of-lt q ∙ omega arith
+
+pub ones-positive : (k : ℕ) → k ≤ 30 → 1 ≤ 1 * 2 ^ k % 2 ^ 64
+ones-positive k h = subst (λ (n : ℕ). 1 ≤ n) (sym (wide-power k (omega arith))) (pow-pos k)
+
+pub ones-are : (k : ℕ) → k ≤ 30 → (1 * 2 ^ k % 2 ^ 64 - 1 ≡ 2 ^ k - 1) × (1 * 2 ^ k % 2 ^ 64 - 1 < 2 ^ k)
+ones-are k h =
+    let e = ap (λ (n : ℕ). n - 1) (wide-power k (omega arith)) in
+    (e, subst (λ (n : ℕ). n < 2 ^ k) (sym e) (ones-lt k))
+
+-- joined bits lie in their widths together
+pub join-is : (number count more width : ℕ) → number < 2 ^ count → more < 2 ^ width → count + width ≤ 40
+    → (number * 2 ^ width % 2 ^ 64 + more ≡ number * 2 ^ width + more) × (number * 2 ^ width % 2 ^ 64 + more < 2 ^ (count + width))
+join-is number count more width a b h =
+    let whole : number * 2 ^ width + more < 2 ^ (count + width) = field-lt count width (count + width) a b refl in
+    let under : 2 ^ (count + width) ≤ 2 ^ 40 = pow-mono {i = count + width} {j = 40} h in
+    let e : number * 2 ^ width % 2 ^ 64 ≡ number * 2 ^ width = mod-eq-of-lt (omega arith) in
+    let f = ap (λ (n : ℕ). n + more) e in
+    (f, subst (λ (n : ℕ). n < 2 ^ (count + width)) (sym f) whole)
+
+pub join-fits : (number count more width : ℕ) → number < 2 ^ count → more < 2 ^ width → count + width ≤ 40
+    → Fits w64 (number * 2 ^ width % 2 ^ 64 + more)
+join-fits number count more width a b h =
+    let o = join-is number count more width a b h in
+    record { fits = omega (arith, o .1, pow-mono {i = count + width} {j = 40} h) }
+
+-- a field with a zero before it
+zero-before : (w x : ℕ) → x < 2 ^ w → toBits (1 + w) x ≡ 0 ∷ toBits w x
+zero-before w x h =
+    ap (λ (n : ℕ). toBits (1 + w) n) (sym (zero-add x) ∙ ap (λ (n : ℕ). n + x) (sym (native.Mathlib.Nat.zero-mul (2 ^ w))))
+    ∙ toBits-join 1 w 0 x h
+
+-- a field with a bit before it
+bit-before : (w p x : ℕ) → p < 2 → x < 2 ^ w → toBits (1 + w) (p * 2 ^ w + x) ≡ p ∷ toBits w x
+bit-before w p x hp h =
+    toBits-join 1 w p x h
+    ∙ ap (λ (n : ℕ). n ∷ toBits w x) (ap (λ (n : ℕ). n % 2) (native.Mathlib.Nat.div-one p) ∙ mod-eq-of-lt hp)
+
+-- a one and a sign
+one-and-sign : (s : ℕ) → s < 2 → toBits 2 (2 + s) ≡ 1 ∷ s ∷ []
+one-and-sign zero h = refl
+one-and-sign (suc zero) h = refl
+one-and-sign (suc (suc s)) h = absurd (omega arith)
+
+-- a field is narrower than itself with a bit before it
+pub narrower : (w x : ℕ) → x < 2 ^ w → x < 2 ^ (1 + w)
+narrower w x h = omega (arith, pow-mono {i = w} {j = 1 + w} (omega arith))
+
+-- the head, the run of ones, the zero and the field, side by side
+pub coded-holds : (s ones after w head number : ℕ) → s < 2 → after < 2 ^ w → ones + w ≤ 30
+    → head ≡ (2 + s) * 2 ^ ones + (2 ^ ones - 1)
+    → number ≡ head * 2 ^ (1 + w) + after → number < 2 ^ (2 + ones + (1 + w))
+    → Holds number (2 + ones + (1 + w)) (coded s ones (toBits w after))
+coded-holds s ones after w head number hs hw few p q fits =
+    record {
+      bits-are =
+        ap (toBits (2 + ones + (1 + w))) q
+        ∙ toBits-join (2 + ones) (1 + w) head after (narrower w after hw)
+        ∙ ap₂ (λ (k l : List ℕ). k ++ l)
+        (ap (toBits (2 + ones)) p
+        ∙ toBits-join 2 ones (2 + s) (2 ^ ones - 1) (ones-lt ones)
+        ∙ ap₂ (λ (k l : List ℕ). k ++ l) (one-and-sign s hs) (toBits-ones ones))
+        (zero-before w after hw);
+      number-fits = fits;
+      few = omega arith
+    }
+
+-- bits that are held, by another name
+pub held-as : {number count : ℕ} {l k : List ℕ} → Holds number count l → l ≡ k → Holds number count k
+held-as {number} {count} h e = subst (Holds number count) e h
+
+-- ---- the shape of a magnitude, where the tests say which
+
+pub shape-nought : (d s m : ℕ) → m < leastCoded d → shapeOf d s m ≡ nought
+unfolding shapeOf
+shape-nought d s m h = rw (lt-ltb m (leastCoded d) h)
+
+pub shape-small : (d s m : ℕ) → leastCoded d ≤ m → m < 16 → shapeOf d s m ≡ small s (m / 2 ^ d)
+unfolding shapeOf
+shape-small d s m a h = rw (le-ltb m (leastCoded d) a, lt-ltb m 16 h)
+
+pub shape-mid : (d s m : ℕ) → leastCoded d ≤ m → 16 ≤ m → m < 32 → shapeOf d s m ≡ mid s (m % 16 / 2 ^ (1 + d))
+unfolding shapeOf
+shape-mid d s m a b h = rw (le-ltb m (leastCoded d) a, le-ltb m 16 b, lt-ltb m 32 h)
+
+pub shape-big : (d s m : ℕ) → leastCoded d ≤ m → 16 ≤ m → 32 ≤ m → shapeOf d s m ≡ bigOf d s (leading m) m
+unfolding shapeOf
+shape-big d s m a b h = rw (le-ltb m (leastCoded d) a, le-ltb m 16 b, le-ltb m 32 h)
+
+-- ---- bits put into bytes
+
+-- a byte is the bits before a place, the bit there and those after it
+byte-parts : (h c l place : ℕ) → place < 8 → c < 2 → l < 2 ^ (7 - place)
+    → byteBits ((h * 2 + c) * 2 ^ (7 - place) + l) ≡ toBits place h ++ (c ∷ toBits (7 - place) l)
+unfolding byteBits
+byte-parts h c l place a b e =
+    let eight : 8 ≡ place + 1 + (7 - place) = omega arith in
+    ap (λ (n : ℕ). toBits n ((h * 2 + c) * 2 ^ (7 - place) + l)) eight
+    ∙ toBits-join (place + 1) (7 - place) (h * 2 + c) l e
+    ∙ ap (λ (k : List ℕ). k ++ toBits (7 - place) l)
+    (toBits-join place 1 h c b
+    ∙ ap (λ (n : ℕ). toBits place h ++ (n ∷ [])) (ap (λ (n : ℕ). n % 2) (native.Mathlib.Nat.div-one c) ∙ mod-eq-of-lt b))
+    ∙ append-assoc (toBits place h) (c ∷ []) (toBits (7 - place) l)
+
+module _ (byte place bit unit : ℕ) (small-byte : byte < 256) (in-byte : place < 8) (is-bit : bit < 2) (unit-is : unit ≡ 2 ^ (7 - place)) where
+  -- the bits down to the place, with the bit put
+  top-lt : byte / 2 ^ (7 - place) / 2 * 2 + bit < 2 ^ (place + 1)
+  top-lt =
+      let q : byte / 2 ^ (7 - place) < 2 ^ (place + 1) = high-lt (place + 1) (7 - place) 8 small-byte (omega arith) in
+      let e : 2 ^ (place + 1) ≡ 2 ^ place * 2 = ap (λ (n : ℕ). 2 ^ n) (add-one place) ∙ pow-suc 2 place in
+      omega arith
+
+  low-lt : byte % 2 ^ (7 - place) < 2 ^ (7 - place)
+  low-lt = mod-lt byte (pow-pos (7 - place))
+
+  whole-lt : (byte / 2 ^ (7 - place) / 2 * 2 + bit) * 2 ^ (7 - place) + byte % 2 ^ (7 - place) < 256
+  whole-lt = field-lt (place + 1) (7 - place) 8 top-lt low-lt (omega arith)
+
+  pub put-lt : (byte / unit / 2 * 2 + bit) * unit + byte % unit < 256
+  put-lt = rw unit-is whole-lt
+
+  pub top-small : byte / unit / 2 * 2 + bit < 256
+  top-small = rw unit-is (omega (arith, top-lt, pow-mono {i = place + 1} {j = 8} (omega arith)))
+
+  pub put-bits : byteBits ((byte / unit / 2 * 2 + bit) * unit + byte % unit) ≡ set (byteBits byte) place bit
+  put-bits =
+      rw unit-is
+      (let q : ℕ = byte / 2 ^ (7 - place) in
+      let h : ℕ = q / 2 in
+      let whole : byte ≡ (h * 2 + q % 2) * 2 ^ (7 - place) + byte % 2 ^ (7 - place)
+          = sym (split byte (7 - place)) ∙ ap (λ (n : ℕ). n * 2 ^ (7 - place) + byte % 2 ^ (7 - place)) (omega arith) in
+      byte-parts h bit (byte % 2 ^ (7 - place)) place in-byte is-bit low-lt
+      ∙ sym (ap (λ (k : List ℕ). set k place bit)
+      (ap byteBits whole ∙ byte-parts h (q % 2) (byte % 2 ^ (7 - place)) place in-byte (mod-lt q (pow-pos 1)) low-lt)
+      ∙ set-at (toBits place h) (q % 2) (toBits (7 - place) (byte % 2 ^ (7 - place))) bit place (length-toBits place h)))
+
+-- a store beyond the first list is a store in the second
+set-append-add : (xs ys : List ℕ) (n a : ℕ) → set (xs ++ ys) (length xs + n) a ≡ xs ++ set ys n a
+set-append-add [] ys n a = ap (λ (k : ℕ). set ys k a) (zero-add n)
+set-append-add (x ∷ xs) ys n a = ap (λ (k : ℕ). set (x ∷ (xs ++ ys)) k a) (suc-add (length xs) n) ∙ ap (λ (k : List ℕ). x ∷ k) (set-append-add xs ys n a)
+
+-- a byte stored with one bit put is the bit put among the bits
+pub set-bitsOf : (bytes : List ℕ) (i r bit : ℕ) → i < 8 * length bytes → byteBits r ≡ set (byteBits (getD bytes (i / 8) 0)) (i % 8) bit
+    → bitsOf (set bytes (i / 8) r) ≡ set (bitsOf bytes) i bit
+unfolding byteBits
+set-bitsOf [] i r bit h e = absurd (omega arith)
+set-bitsOf (b ∷ bytes) i r bit h e = go (λ n k f. set-bitsOf bytes n r bit k f) (ltb i 8) refl
+  where
+    go : ((n : ℕ) → n < 8 * length bytes → byteBits r ≡ set (byteBits (getD bytes (n / 8) 0)) (n % 8) bit → bitsOf (set bytes (n / 8) r) ≡ set (bitsOf bytes) n bit)
+        → (t : Bool) → ltb i 8 ≡ t → bitsOf (set (b ∷ bytes) (i / 8) r) ≡ set (toBits 8 b ++ bitsOf bytes) i bit
+    go ih true t =
+        let low : i < 8 = ltb-true i 8 t in
+        let q : i / 8 ≡ 0 = omega arith in
+        let m : i % 8 ≡ i = omega arith in
+        ap (λ (n : ℕ). bitsOf (set (b ∷ bytes) n r)) q
+        ∙ ap (λ (k : List ℕ). k ++ bitsOf bytes)
+        (e ∙ ap₂ (λ (n k : ℕ). set (byteBits (getD (b ∷ bytes) n 0)) k bit) q m)
+        ∙ sym (set-append-left (toBits 8 b) (bitsOf bytes) i bit low)
+    go ih false t =
+        let over : 8 ≤ i = ltb-false i 8 t in
+        let n : ℕ = i - 8 in
+        let f : i ≡ 8 + n = omega arith in
+        let q : i / 8 ≡ suc (n / 8) = omega arith in
+        let m : i % 8 ≡ n % 8 = omega arith in
+        ap (λ (k : ℕ). bitsOf (set (b ∷ bytes) k r)) q
+        ∙ ap (λ (k : List ℕ). toBits 8 b ++ k)
+        (ih n (omega arith) (e ∙ ap₂ (λ (j k : ℕ). set (byteBits (getD (b ∷ bytes) j 0)) k bit) q m))
+        ∙ sym (ap (λ (k : ℕ). set (toBits 8 b ++ bitsOf bytes) k bit) f ∙ set-append-add (toBits 8 b) (bitsOf bytes) n bit)
+
+-- bytes of one length count as many bits
+pub counted-same : (a b : List ℕ) → length a ≡ length b → length (counted a) ≡ length (counted b)
+counted-same a b e = omega (arith, length-counted a, length-counted b)
+
+-- one turn of putting bits
+pub put-turn : (old now last : List ℕ) (at count number i v : ℕ) → at + count ≤ length (counted old) → i < count
+    → bitsOf now ≡ paste (bitsOf old) at (toBits count number) i → v ≡ number / 2 ^ (count - 1 - i) % 2 → bitsOf last ≡ set (bitsOf now) (at + i) v
+    → bitsOf last ≡ paste (bitsOf old) at (toBits count number) (i + 1)
+put-turn old now last at count number i v fits h inv q e =
+    e
+    ∙ ap₂ (λ (k : List ℕ) (n : ℕ). set k (at + i) n) inv (q ∙ sym (getD-toBits count number i h))
+    ∙ paste-suc (bitsOf old) at (toBits count number) i 0 (omega (arith, length-counted old, length-bitsOf old)) (omega (arith, length-toBits count number))
+    ∙ ap (λ (n : ℕ). paste (bitsOf old) at (toBits count number) n) (sym (add-one i))
+
+-- all bits have been put
+pub put-done : (old now : List ℕ) (at count number i : ℕ) → i ≤ count → count ≤ i → bitsOf now ≡ paste (bitsOf old) at (toBits count number) i
+    → bitsOf now ≡ paste (bitsOf old) at (toBits count number) count
+put-done old now at count number i a b e = let f : i ≡ count = omega arith in e ∙ ap (λ (n : ℕ). paste (bitsOf old) at (toBits count number) n) f

@@ -1,0 +1,9 @@
+pub mod Meaning
+pub mod Cases
+pub mod BitLists
+pub mod Shapes
+pub mod Magnitudes
+pub mod Answers
+pub mod Promise
+pub mod Steps
+pub mod Positions

@@ -1,0 +1,194 @@
+// Writing a code: its bits as a number, put bit by bit at a position.
+use crate::Packed;
+use crate::read;
+
+ghost use mathlib.Core.Path.{_≡_};
+ghost use Prim.Native.Nat.{_+_, _-_, _*_, _/_, _%_, _^_, _<_, _≤_};
+ghost use lib.IntN.{natAbs};
+ghost use lib.ListN.{length, set};
+ghost use lib.Seq.{paste};
+ghost use Rattle.ground.specs.Bits.{toBits, bitsOf};
+ghost use Rattle.code.specs.Meaning.{signOf, leastCoded, leading as leadingPlace, shapeOf, bits, coded as codedBits, bigOf, counted, toByteEnd, bytesWith, largest, longestRun};
+ghost use Rattle.code.specs.Shapes.{Drop};
+ghost use Rattle.code.specs.Steps.{Holds, PlacePromise, byteBits};
+
+// Bits held in a number, the first counting most.
+pub struct Held {
+    pub number: u64,
+    pub count: u32,
+}
+
+// The magnitude of a number, at every i32.
+pub fn magnitude(v: i32) -> u32
+    ensures { λ r. ⌜ r ≡ natAbs v ⌝ }
+{
+    let w = v as i64;
+    if w < 0 { (0 - w) as u32 } else { w as u32 }
+}
+
+// The sign bit of a number.
+pub fn sign(v: i32) -> u32
+    ensures { λ r. ⌜ (r ≡ signOf v) × (r < 2) ⌝ }
+{
+    if v < 0 { 1 } else { 0 }
+}
+
+// The code of a sign and a magnitude inside the rule.
+pub fn code(drop: u32, sign: u32, m: u32) -> Held
+    requires { ⌜ Drop drop × (sign < 2) × (m ≤ largest) ⌝ }
+    ensures { λ r. ⌜ Holds (r .number) (r .count) (bits drop (shapeOf drop sign m)) ⌝ }
+{
+    if m < least_coded(drop) {
+        return Held { number: 0, count: 1 };
+    }
+    if m < 16 {
+        return coded(sign, 0, (m >> drop) as u64, 4 - drop);
+    }
+    if m < 32 {
+        return coded(sign, 1, (m % 16 >> (1 + drop)) as u64, 3 - drop);
+    }
+    big(drop, sign, m)
+}
+
+// The least magnitude that has a code of its own.
+fn least_coded(drop: u32) -> u32
+    ensures { λ r. ⌜ r ≡ leastCoded drop ⌝ }
+{
+    if drop == 0 { 1 } else { 4 }
+}
+
+// The code of a magnitude from 32 on.
+fn big(drop: u32, sign: u32, m: u32) -> Held
+    requires { ⌜ Drop drop × (sign < 2) × (32 ≤ m) × (m ≤ largest) ⌝ }
+    ensures { λ r. ⌜ Holds (r .number) (r .count) (bits drop (bigOf drop sign (leadingPlace m) m)) ⌝ }
+{
+    let k = leading(m);
+    let ones = (k - 1) / 2;
+    let parity = (k - 1) % 2;
+    let width = ones + 1 - drop;
+    let x = below(m, k, ones + parity + drop);
+    coded(sign, ones, join(parity as u64, 1, x as u64, width), 1 + width)
+}
+
+// The place of the leading one of a big magnitude.
+fn leading(m: u32) -> u32
+    requires { ⌜ (32 ≤ m) × (m ≤ largest) ⌝ }
+    ensures { λ r. ⌜ (r ≡ leadingPlace m) × (5 ≤ r) × (r < 2 * longestRun + 3) ⌝ }
+{
+    31 - u32::leading_zeros(m)
+}
+
+// The bits below a place, without so many at the end.
+fn below(m: u32, k: u32, left: u32) -> u32
+    requires { ⌜ (k < 32) × (left < 32) ⌝ }
+    ensures { λ r. ⌜ r ≡ m % 2 ^ k / 2 ^ left ⌝ }
+{
+    (m % power(k)) >> left
+}
+
+// A power of two.
+fn power(k: u32) -> u32
+    requires { ⌜ k < 32 ⌝ }
+    ensures { λ r. ⌜ (r ≡ 2 ^ k) × (0 < r) ⌝ }
+{
+    1 << k
+}
+
+// `1 s`, so many ones, `0`, then a field.
+fn coded(sign: u32, ones: u32, after: u64, width: u32) -> Held
+    requires { ⌜ (sign < 2) × (after < 2 ^ width) × (ones + width ≤ 30) ⌝ }
+    ensures { λ r. ⌜ Holds (r .number) (r .count) (codedBits sign ones (toBits width after)) ⌝ }
+{
+    let head = join((2 + sign) as u64, 2, all_ones(ones), ones);
+    Held {
+        number: join(head, 2 + ones, after, 1 + width),
+        count: 2 + ones + (1 + width),
+    }
+}
+
+// So many ones.
+fn all_ones(count: u32) -> u64
+    requires { ⌜ count ≤ 30 ⌝ }
+    ensures { λ r. ⌜ (r ≡ 2 ^ count - 1) × (r < 2 ^ count) ⌝ }
+{
+    (1 << count) - 1
+}
+
+// Bits with more bits after them.
+fn join(number: u64, count: u32, more: u64, width: u32) -> u64
+    requires { ⌜ (number < 2 ^ count) × (more < 2 ^ width) × (count + width ≤ 40) ⌝ }
+    ensures { λ r. ⌜ (r ≡ number * 2 ^ width + more) × (r < 2 ^ (count + width)) ⌝ }
+{
+    (number << width) + more
+}
+
+// Bits put at a position, the rest of their last byte set to 0; or nothing, where they do not fit.
+pub fn place(buffer: &mut [u8], at: u64, number: u64, count: u32) -> Packed
+    requires { ⌜ (number < 2 ^ count) × (count ≤ 33) ⌝ }
+    ensures { λ r. ⌜ PlacePromise (now (buffer .entry)) at (toBits count number) r (now (buffer .exit)) ⌝ }
+{
+    let end = read::end_of(buffer);
+    if end < at {
+        return Packed::TooShort;
+    }
+    if end - at < count as u64 {
+        return Packed::TooShort;
+    }
+    let next = at + count as u64;
+    let pad = to_byte_end(next);
+    put(buffer, at, join(number, count, 0, pad), count + pad);
+    Packed::Next(next)
+}
+
+// How many bits there are from a position to the end of its byte.
+fn to_byte_end(at: u64) -> u32
+    ensures { λ r. ⌜ (r ≡ toByteEnd at) × (r < 8) ⌝ }
+{
+    ((8 - at % 8) % 8) as u32
+}
+
+// Bits put one after the other.
+fn put(buffer: &mut [u8], at: u64, number: u64, count: u32)
+    requires { ⌜ (at + count ≤ length (counted (now buffer))) × (count ≤ 40) ⌝ }
+    ensures { λ _. ⌜ bitsOf (now (buffer .exit)) ≡ paste (bitsOf (now (buffer .entry))) at (toBits count number) count ⌝ }
+{
+    let mut i: u32 = 0;
+    while i < count {
+        put_bit(buffer, at + i as u64, digit(number, count - 1 - i));
+        i += 1;
+    }
+}
+
+// A bit of a number.
+fn digit(number: u64, place: u32) -> u32
+    requires { ⌜ place < 64 ⌝ }
+    ensures { λ r. ⌜ (r ≡ number / 2 ^ place % 2) × (r < 2) ⌝ }
+{
+    ((number >> place) % 2) as u32
+}
+
+// One bit put at a position.
+fn put_bit(buffer: &mut [u8], at: u64, bit: u32)
+    requires { ⌜ (at < length (counted (now buffer))) × (bit < 2) ⌝ }
+    ensures { λ _. ⌜ bitsOf (now (buffer .exit)) ≡ set (bitsOf (now (buffer .entry))) at bit ⌝ }
+{
+    let i = (at / 8) as usize;
+    let byte = with_bit(byte_wide(buffer[i]), (at % 8) as u32, bit);
+    buffer[i] = byte as u8;
+}
+
+// A byte as a number to compute with.
+fn byte_wide(byte: u8) -> u32
+    ensures { λ r. ⌜ (r ≡ byte) × (r < 256) ⌝ }
+{
+    byte as u32
+}
+
+// A byte with one of its bits put, the most significant first.
+fn with_bit(byte: u32, place: u32, bit: u32) -> u32
+    requires { ⌜ (byte < 256) × (place < 8) × (bit < 2) ⌝ }
+    ensures { λ r. ⌜ (byteBits r ≡ set (byteBits byte) place bit) × (r < 256) ⌝ }
+{
+    let unit = power(7 - place);
+    (byte / unit / 2 * 2 + bit) * unit + byte % unit
+}
