@@ -89,7 +89,11 @@ fn drop_taken(drop: u8) -> bool
 fn in_rule(m: u32, drop: u8) -> bool
     ensures { λ r. ⌜ r ≡ (dropTaken drop && leb m largest) ⌝ }
 {
-    if drop_taken(drop) { m <= LARGEST } else { false }
+    if drop_taken(drop) {
+        m <= LARGEST
+    } else {
+        false
+    }
 }
 
 // A drop as the number that widths are made of.
