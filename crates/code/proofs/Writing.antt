@@ -15,19 +15,22 @@ use lib.Seq.{set-at, set-append-left, paste, paste-suc, paste-zero, getD-drop}
 use lib.Pow.{pow-pos, pow-mono, pow-add, split, ones-lt, shl-lt}
 use lib.Arith.{digits-lt}
 use lib.Dec.{T, ltb, leb, eqb}
-use borrow.Author.Tests.{lt-ltb, le-ltb, le-leb, lt-leb, ltb-true, ltb-false}
+use borrow.Author.Tests.{lt-ltb, le-ltb, le-leb, lt-leb, ltb-true, ltb-false, leb-true}
 use mir.Syntax.{w32, w64}
 use mir.Val.{toZ, ofZ, SFits, Fits}
 use mir.ValLaws.{toZ-ofZ}
 use Rattle.ground.specs.Choice.{pick}
 use Rattle.ground.specs.Paper.{Paper, accepted, refused}
 use Rattle.ground.specs.Bits.{toBits, bitsOf}
-use Rattle.code.specs.Meaning.{Shape, nought, small, mid, big, bits, coded, shapeOf, bigOf, leading, leadingIn, leastCoded, signOf, counted, largest, longestRun}
+use Rattle.code.specs.Meaning.{Shape, nought, small, mid, big, bits, coded, shapeOf, bigOf, leading, leadingIn, leastCoded, signOf, counted, largest, longestRun, toByteEnd, padded, bytesFrom, bytesWith, codeOf, codeFits, inRule, dropTaken, packMeans, packLeaves}
 use Rattle.code.specs.BitLists.{length-toBits, length-bitsOf, toBits-join, toBits-ones, toBits-zeros}
-use Rattle.code.specs.Positions.{length-counted, getD-toBits}
+use Rattle.code.specs.Positions.{length-counted, getD-toBits, allBytes, bytes-back}
 use Rattle.code.specs.Magnitudes.{leading-is, leading-bounds, exponent-lt, high-lt, field-lt, drop-small}
 use Rattle.code.specs.Shapes.{Drop, none, three}
-use Rattle.code.specs.Steps.{Holds, byteBits}
+use Rattle.code.specs.Steps.{Holds, byteBits, PlacePromise, placeMeans, placeLeaves}
+use Rattle.code.specs.Promise.{PackPromise}
+use Rattle.code.specs.declared.Packed.{Packed}
+use Rattle.code.specs.declared.Packed.the-variants.{Next, OutsideRule as PackedOutsideRule, TooShort}
 
 -- ---- a signed number
 
@@ -63,10 +66,12 @@ less-negative n = ap pos (zero-add (suc n))
 module _ (v : ℤ) (f : SFits w32 v) where
   negated : ltZ (asWide v) (pos 0) ≡ true → (n : ℕ) × (v ≡ negsuc n) × (pos 0 -ℤ asWide v ≡ pos (suc n)) × (n < 2 ^ 31)
   negated t =
-      let o = negative v (subst (λ (z : ℤ). ltZ z (pos 0) ≡ true) (as-wide v f) t) in
-      (o .0, o .1,
-      ap (λ (z : ℤ). pos 0 -ℤ z) (as-wide v f ∙ o .1) ∙ less-negative (o .0),
-      subst (SFits w32) (o .1) f .sfits)
+      let o = negative v (subst (λ (z : ℤ). ltZ z (pos 0) ≡ true) (as-wide v f) t) in (
+        o .0,
+        o .1,
+        ap (λ (z : ℤ). pos 0 -ℤ z) (as-wide v f ∙ o .1) ∙ less-negative (o .0),
+        subst (SFits w32) (o .1) f .sfits,
+      )
 
   pub negated-fits : ltZ (asWide v) (pos 0) ≡ true → SFits w64 (pos 0 -ℤ asWide v)
   negated-fits t =
@@ -180,15 +185,15 @@ pub coded-holds : (s ones after w head number : ℕ) → s < 2 → after < 2 ^ w
 coded-holds s ones after w head number hs hw few p q fits =
     record {
       bits-are =
-        ap (toBits (2 + ones + (1 + w))) q
-        ∙ toBits-join (2 + ones) (1 + w) head after (narrower w after hw)
-        ∙ ap₂ (λ (k l : List ℕ). k ++ l)
-        (ap (toBits (2 + ones)) p
-        ∙ toBits-join 2 ones (2 + s) (2 ^ ones - 1) (ones-lt ones)
-        ∙ ap₂ (λ (k l : List ℕ). k ++ l) (one-and-sign s hs) (toBits-ones ones))
-        (zero-before w after hw);
+          ap (toBits (2 + ones + (1 + w))) q
+          ∙ toBits-join (2 + ones) (1 + w) head after (narrower w after hw)
+          ∙ ap₂ (λ (k l : List ℕ). k ++ l)
+          (ap (toBits (2 + ones)) p
+          ∙ toBits-join 2 ones (2 + s) (2 ^ ones - 1) (ones-lt ones)
+          ∙ ap₂ (λ (k l : List ℕ). k ++ l) (one-and-sign s hs) (toBits-ones ones))
+          (zero-before w after hw);
       number-fits = fits;
-      few = omega arith
+      few = omega arith;
     }
 
 -- bits that are held, by another name
@@ -254,7 +259,7 @@ module _ (byte place bit unit : ℕ) (small-byte : byte < 256) (in-byte : place 
       (let q : ℕ = byte / 2 ^ (7 - place) in
       let h : ℕ = q / 2 in
       let whole : byte ≡ (h * 2 + q % 2) * 2 ^ (7 - place) + byte % 2 ^ (7 - place)
-          = sym (split byte (7 - place)) ∙ ap (λ (n : ℕ). n * 2 ^ (7 - place) + byte % 2 ^ (7 - place)) (omega arith) in
+      = sym (split byte (7 - place)) ∙ ap (λ (n : ℕ). n * 2 ^ (7 - place) + byte % 2 ^ (7 - place)) (omega arith) in
       byte-parts h bit (byte % 2 ^ (7 - place)) place in-byte is-bit low-lt
       ∙ sym (ap (λ (k : List ℕ). set k place bit)
       (ap byteBits whole ∙ byte-parts h (q % 2) (byte % 2 ^ (7 - place)) place in-byte (mod-lt q (pow-pos 1)) low-lt)
@@ -311,3 +316,142 @@ put-turn old now last at count number i v fits h inv q e =
 pub put-done : (old now : List ℕ) (at count number i : ℕ) → i ≤ count → count ≤ i → bitsOf now ≡ paste (bitsOf old) at (toBits count number) i
     → bitsOf now ≡ paste (bitsOf old) at (toBits count number) count
 put-done old now at count number i a b e = let f : i ≡ count = omega arith in e ∙ ap (λ (n : ℕ). paste (bitsOf old) at (toBits count number) n) f
+
+-- ---- the code of a big magnitude
+
+-- the field of a big magnitude lies in its width
+pub big-field-lt : (d k m x : ℕ) → Drop d → 5 ≤ k → x ≡ m % 2 ^ k / 2 ^ ((k - 1) / 2 + (k - 1) % 2 + d) → x < 2 ^ ((k - 1) / 2 + 1 - d)
+big-field-lt d k m x dr h e =
+    subst (λ (n : ℕ). n < 2 ^ ((k - 1) / 2 + 1 - d)) (sym e)
+    (high-lt ((k - 1) / 2 + 1 - d) ((k - 1) / 2 + (k - 1) % 2 + d) k (mod-lt m (pow-pos k)) (omega (arith, drop-small dr)))
+
+-- its parity and its field, side by side
+pub big-holds : (d s m k x j number count : ℕ) → Drop d → 5 ≤ k → k ≡ leading m → x ≡ m % 2 ^ k / 2 ^ ((k - 1) / 2 + (k - 1) % 2 + d)
+    → j ≡ (k - 1) % 2 * 2 ^ ((k - 1) / 2 + 1 - d) + x
+    → Holds number count (coded s ((k - 1) / 2) (toBits (1 + ((k - 1) / 2 + 1 - d)) j))
+    → Holds number count (bits d (bigOf d s (leading m) m))
+big-holds d s m k x j number count dr h place e f held =
+    subst (λ (n : ℕ). Holds number count (bits d (bigOf d s n m))) place
+    (held-as held
+    (ap (coded s ((k - 1) / 2))
+    (ap (toBits (1 + ((k - 1) / 2 + 1 - d))) f
+    ∙ bit-before ((k - 1) / 2 + 1 - d) ((k - 1) % 2) x (mod-lt (k - 1) (pow-pos 1)) (big-field-lt d k m x dr h e)
+    ∙ ap (λ (n : ℕ). (k - 1) % 2 ∷ toBits ((k - 1) / 2 + 1 - d) n) e)))
+
+-- nought is one bit
+pub nought-holds : (d s m : ℕ) → m < leastCoded d → Holds 0 1 (bits d (shapeOf d s m))
+nought-holds d s m h =
+    held-as {number = 0} {count = 1} (record { bits-are = refl; number-fits = omega arith; few = omega arith }) (ap (bits d) (sym (shape-nought d s m h)))
+
+-- the drop's own least coded magnitude
+pub least-three : (d : ℕ) → (d ≡ 0 → ⊥) → 4 ≡ leastCoded d
+least-three zero h = absurd (h refl)
+least-three (suc d) h = refl
+
+-- the code of a small magnitude
+pub small-holds : (d s m least number count : ℕ) → least ≡ leastCoded d → least ≤ m → m < 16
+    → Holds number count (coded s 0 (toBits (4 - d) (m / 2 ^ d))) → Holds number count (bits d (shapeOf d s m))
+small-holds d s m least number count e a h held = held-as held (ap (bits d) (sym (shape-small d s m (omega arith) h)))
+
+-- the code of a mid magnitude
+pub mid-holds : (d s m least number count : ℕ) → least ≡ leastCoded d → least ≤ m → 16 ≤ m → m < 32
+    → Holds number count (coded s 1 (toBits (3 - d) (m % 16 / 2 ^ (1 + d)))) → Holds number count (bits d (shapeOf d s m))
+mid-holds d s m least number count e a b h held = held-as held (ap (bits d) (sym (shape-mid d s m (omega arith) b h)))
+
+-- the code of a big magnitude
+pub big-code-holds : (d s m least number count : ℕ) → least ≡ leastCoded d → least ≤ m → 16 ≤ m → 32 ≤ m
+    → Holds number count (bits d (bigOf d s (leading m) m)) → Holds number count (bits d (shapeOf d s m))
+big-code-holds d s m least number count e a b h held = held-as held (ap (bits d) (sym (shape-big d s m (omega arith) b h)))
+
+-- the fields of small and mid magnitudes lie in their widths
+pub small-field-lt : (d m : ℕ) → Drop d → m < 16 → m / 2 ^ d < 2 ^ (4 - d)
+small-field-lt d m dr h = high-lt (4 - d) d 4 h (omega (arith, drop-small dr))
+
+pub mid-field-lt : (d m : ℕ) → Drop d → m % 16 / 2 ^ (1 + d) < 2 ^ (3 - d)
+mid-field-lt d m dr = high-lt (3 - d) (1 + d) 4 (mod-lt m (pow-pos 4)) (omega (arith, drop-small dr))
+
+-- ---- bits placed in a buffer
+
+-- they do not fit
+pub place-short : (buffer : List ℕ) (at number count end : ℕ) → end ≡ length (counted buffer) → end < at + count
+    → PlacePromise buffer at (toBits count number) TooShort buffer
+place-short buffer at number count end e h =
+    let t : leb (at + length (toBits count number)) (length (counted buffer)) ≡ false
+    = lt-leb (at + length (toBits count number)) (length (counted buffer)) (omega (arith, length-toBits count number)) in
+    record {
+      answer = sym (ap (λ (b : Bool). pick b (accepted (at + length (toBits count number))) (refused 3)) t);
+      memory = sym (ap (λ (b : Bool). pick b (bytesWith buffer at (toBits count number)) buffer) t);
+    }
+
+-- the room that a code and the rest of its last byte take
+pub pad-fits : (buffer : List ℕ) (at count pad : ℕ) → at + count ≤ length (counted buffer) → pad ≡ toByteEnd (at + count)
+    → at + (count + pad) ≤ length (counted buffer)
+pad-fits buffer at count pad h e = omega (arith, length-counted buffer)
+
+-- a code's number with room for the rest of its last byte
+padded-is : (at number count pad : ℕ) → pad ≡ toByteEnd (at + count)
+    → toBits (count + pad) (number * 2 ^ pad + 0) ≡ padded at (toBits count number)
+padded-is at number count pad e =
+    toBits-join count pad number 0 (pow-pos pad)
+    ∙ ap (λ (k : List ℕ). toBits count number ++ k)
+    (toBits-zeros pad ∙ ap (λ (n : ℕ). replicate n 0) (e ∙ ap (λ (n : ℕ). toByteEnd (at + n)) (sym (length-toBits count number))))
+
+-- they fit
+pub place-there : (buffer last : List ℕ) (at number count end pad joined : ℕ) → end ≡ length (counted buffer) → at + count ≤ end
+    → pad ≡ toByteEnd (at + count) → joined ≡ number * 2 ^ pad + 0 → length last ≡ length buffer → allBytes last
+    → bitsOf last ≡ paste (bitsOf buffer) at (toBits (count + pad) joined) (count + pad)
+    → PlacePromise buffer at (toBits count number) (Next (at + count)) last
+place-there buffer last at number count end pad joined e h p q same ok put =
+    let l : List ℕ = toBits count number in
+    let t : leb (at + length l) (length (counted buffer)) ≡ true = le-leb (at + length l) (length (counted buffer)) (omega (arith, length-toBits count number)) in
+    let code : toBits (count + pad) joined ≡ padded at l = ap (toBits (count + pad)) q ∙ padded-is at number count pad p in
+    let long : count + pad ≡ length (padded at l) = sym (length-toBits (count + pad) joined) ∙ ap length code in
+    record {
+      answer =
+          sym (ap (λ (b : Bool). pick b (accepted (at + length l)) (refused 3)) t ∙ ap (λ (n : ℕ). accepted (at + n)) (length-toBits count number));
+      memory =
+          sym (bytes-back last ok)
+          ∙ ap₂ (λ (n : ℕ) (k : List ℕ). bytesFrom n k) same (put ∙ ap₂ (λ (k : List ℕ) (n : ℕ). paste (bitsOf buffer) at k n) code long)
+          ∙ sym (ap (λ (b : Bool). pick b (bytesWith buffer at l) buffer) t);
+    }
+
+-- ---- a number packed
+
+-- inside the rule
+pub pack-is : (buffer last : List ℕ) (at : ℕ) (v : ℤ) (d w s m number count : ℕ) (r : Packed)
+    → m ≡ natAbs v → s ≡ signOf v → w ≡ d → (dropTaken d && leb m largest) ≡ true
+    → Holds number count (bits w (shapeOf w s m)) → PlacePromise buffer at (toBits count number) r last
+    → PackPromise buffer at v d r last
+pack-is buffer last at v d w s m number count r em es ew t held put =
+    let code : toBits count number ≡ codeOf d v
+    = held .bits-are ∙ ap (λ (n : ℕ). bits n (shapeOf n s m)) ew ∙ ap₂ (λ (a b : ℕ). bits d (shapeOf d a b)) es em in
+    let rule : inRule v d ≡ true = ap (λ (n : ℕ). dropTaken d && leb n largest) (sym em) ∙ t in
+    record {
+      answer =
+          put .answer
+          ∙ ap (placeMeans buffer at) code
+          ∙ sym (ap (λ (b : Bool). pick b (placeMeans buffer at (codeOf d v)) (refused 8)) rule);
+      memory =
+          put .memory
+          ∙ ap (placeLeaves buffer at) code
+          ∙ sym (ap (λ (b : Bool). pick (b && codeFits buffer at v d) (bytesWith buffer at (codeOf d v)) buffer) rule);
+    }
+
+-- outside the rule
+pub pack-refuses : (buffer : List ℕ) (at : ℕ) (v : ℤ) (d m : ℕ) → m ≡ natAbs v → (dropTaken d && leb m largest) ≡ false
+    → PackPromise buffer at v d PackedOutsideRule buffer
+pack-refuses buffer at v d m em t =
+    let rule : inRule v d ≡ false = ap (λ (n : ℕ). dropTaken d && leb n largest) (sym em) ∙ t in
+    record {
+      answer = sym (ap (λ (b : Bool). pick b (placeMeans buffer at (codeOf d v)) (refused 8)) rule);
+      memory = sym (ap (λ (b : Bool). pick (b && codeFits buffer at v d) (bytesWith buffer at (codeOf d v)) buffer) rule);
+    }
+
+-- both tests that make up the rule
+pub rule-drop : (a b : Bool) → (a && b) ≡ true → a ≡ true
+rule-drop true b t = refl
+rule-drop false b t = t
+
+pub rule-fits : (a : Bool) (m : ℕ) → (a && leb m largest) ≡ true → m ≤ largest
+rule-fits true m t = leb-true m largest t
+rule-fits false m t = absurd (Rattle.code.specs.Shapes.false-true t)

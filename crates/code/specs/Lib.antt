@@ -7,3 +7,6 @@ pub mod Answers
 pub mod Promise
 pub mod Steps
 pub mod Positions
+pub mod OneOutcome
+pub mod Theorems
+pub mod Ends

@@ -6,13 +6,13 @@ use mathlib.Core.List.{List, [], _∷_, _++_}
 use Prim.Native.Nat.{ℕ, zero, suc, _+_, _*_, _-_, _/_, _%_, _^_, _<_, _≤_, min}
 use native.Mathlib.Nat.{mul-comm}
 use native.Mathlib.Omega.{arith}
-use lib.ListN.{length, length-append, length-take, length-drop, take, drop, getD, List·getD-append}
+use lib.ListN.{length, length-append, length-take, length-drop, take, drop, getD, take-append-drop, List·getD-append}
 use lib.Seq.{getD-take, getD-drop, getD-append-add, take-suc, length-take-le, drop-cons}
 use lib.Dec.{ltb}
 use borrow.Author.Tests.{ltb-true, ltb-false}
 use Rattle.ground.specs.Bits.{toBits, bitsOf}
-use Rattle.code.specs.Meaning.{counted, fromBits}
-use Rattle.code.specs.BitLists.{allBits, allBits-take, allBits-drop, allBits-bitsOf, length-bitsOf, fromBits-lt}
+use Rattle.code.specs.Meaning.{counted, fromBits, bytesFrom}
+use Rattle.code.specs.BitLists.{allBits, allBits-take, allBits-drop, allBits-bitsOf, length-bitsOf, fromBits-lt, fromBits-toBits, toBits-fromBits}
 
 -- eight bits a byte count, but none from position 2^63 on
 pub length-counted : (bytes : List ℕ) → length (counted bytes) ≡ min (2 ^ 63) (8 * length bytes)
@@ -78,3 +78,34 @@ fromBits-snoc (a ∷ l) b =
     let e : 2 ^ length (l ++ (b ∷ [])) ≡ 2 ^ length l * 2 = ap (λ (n : ℕ). 2 ^ n) (length-append l (b ∷ []) ∙ native.Mathlib.Numerals.add-one (length l)) ∙ native.Mathlib.Nat.pow-suc 2 (length l) in
     let f : a * (2 ^ length l * 2) ≡ a * 2 ^ length l * 2 = sym (native.Mathlib.Nat.mul-assoc a (2 ^ length l) 2) in
     ap (λ (n : ℕ). a * n + fromBits (l ++ (b ∷ []))) e ∙ omega arith
+
+-- every element is a byte
+abbrev pub allBytes : List ℕ → Type 0
+allBytes bytes = (i : ℕ) → getD bytes i 0 < 256
+
+-- bytes come back from their bits
+pub bytes-back : (bytes : List ℕ) → allBytes bytes → bytesFrom (length bytes) (bitsOf bytes) ≡ bytes
+unfolding bytesFrom
+bytes-back [] ok = refl
+bytes-back (b ∷ bytes) ok =
+    ap₂ _∷_
+    (fromBits-toBits 8 b ∙ native.Mathlib.Nat.mod-eq-of-lt (ok 0))
+    (bytes-back bytes (λ i. ok (suc i)))
+
+-- bits come back from their bytes
+pub bits-back : (n : ℕ) (l : List ℕ) → length l ≡ 8 * n → allBits l → bitsOf (bytesFrom n l) ≡ l
+unfolding bytesFrom
+bits-back zero [] e ok = refl
+bits-back zero (b ∷ l) e ok = absurd (omega arith)
+bits-back (suc n) l e ok =
+    let long : length (take 8 l) ≡ 8 = length-take-le 8 l (omega arith) in
+    ap₂ (λ (x y : List ℕ). x ++ y)
+    (subst (λ (k : ℕ). toBits k (fromBits (take 8 l)) ≡ take 8 l) long (toBits-fromBits (take 8 l) (allBits-take 8 l ok)))
+    (bits-back n (drop 8 l) (omega (arith, length-drop 8 l)) (allBits-drop 8 l ok))
+    ∙ take-append-drop 8 l
+
+-- so many bytes were asked, so many are there
+pub length-bytesFrom : (n : ℕ) (l : List ℕ) → length (bytesFrom n l) ≡ n
+unfolding bytesFrom
+length-bytesFrom zero l = refl
+length-bytesFrom (suc n) l = ap suc (length-bytesFrom n (drop 8 l))

@@ -8,7 +8,7 @@ ghost use lib.Dec.{leb};
 ghost use Rattle.ground.specs.Paper.{numberOf};
 ghost use Rattle.code.specs.Meaning.{dropTaken, largest};
 ghost use Rattle.code.specs.Answers.{packedPaper, unpackedPaper};
-ghost use Rattle.code.specs.Promise.{PackPromise, UnpackPromise};
+ghost use Rattle.code.specs.Promise.{PackPromise, UnpackPromise, ReaderPromise};
 
 // The largest magnitude that is packed.
 const LARGEST: u32 = 33554431;
@@ -54,6 +54,40 @@ pub fn unpack(bytes: &[u8], at: u64, drop: u8) -> Unpacked
     }
 }
 
+// The reader of packed codes: the lent bytes and a bit position.
+pub struct Reader<'a> {
+    pub bytes: &'a [u8],
+    pub at: u64,
+}
+
+// A reader of bytes at a bit position.
+pub fn reader_at<'a>(bytes: &'a [u8], at: u64) -> Reader<'a>
+    ensures { λ r. ⌜ ReaderPromise (bytes .entry) at r ⌝ }
+{
+    Reader { bytes, at }
+}
+
+// The code at a reader's position.
+pub fn next_code<'a>(r: Reader<'a>, drop: u8) -> Unpacked
+    ensures { λ u. ⌜ UnpackPromise (now (r .entry .bytes)) (r .entry .at) drop u ⌝ }
+{
+    unpack(r.bytes, r.at, drop)
+}
+
+// The reader moved to a bit position: to the next that was answered, where a run of codes is read.
+pub fn moved_to<'a>(r: Reader<'a>, at: u64) -> Reader<'a>
+    ensures { λ q. ⌜ ReaderPromise (r .entry .bytes) at q ⌝ }
+{
+    Reader { bytes: r.bytes, at }
+}
+
+// A reader made at a position and asked: whoever calls this holds no reader.
+pub fn read_at(bytes: &[u8], at: u64, drop: u8) -> Unpacked
+    ensures { λ r. ⌜ UnpackPromise (now (bytes .entry)) at drop r ⌝ }
+{
+    next_code(reader_at(bytes, at), drop)
+}
+
 // Document 01's number of what writing answered, 0 where a code was written.
 pub fn packed_number(a: Packed) -> u8
     ensures { λ r. ⌜ r ≡ numberOf (packedPaper a) ⌝ }
@@ -89,7 +123,11 @@ fn drop_taken(drop: u8) -> bool
 fn in_rule(m: u32, drop: u8) -> bool
     ensures { λ r. ⌜ r ≡ (dropTaken drop && leb m largest) ⌝ }
 {
-    if drop_taken(drop) { m <= LARGEST } else { false }
+    if drop_taken(drop) {
+        m <= LARGEST
+    } else {
+        false
+    }
 }
 
 // A drop as the number that widths are made of.

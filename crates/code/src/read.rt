@@ -53,9 +53,18 @@ pub fn code(bytes: &[u8], at: u64, end: u64, drop: u32) -> Unpacked
     requires { ⌜ (end ≡ length (counted (now bytes))) × Drop drop ⌝ }
     ensures { λ r. ⌜ unpackedPaper r ≡ restAnswer drop end (parse drop (dropped at (counted (now (bytes .entry))))) ⌝ }
 {
-    if end <= at {
-        return Unpacked::RanOut;
+    if at < end {
+        first_bit(bytes, at, end, drop)
+    } else {
+        Unpacked::RanOut
     }
+}
+
+// The code at a position that is not past the end.
+fn first_bit(bytes: &[u8], at: u64, end: u64, drop: u32) -> Unpacked
+    requires { ⌜ (end ≡ length (counted (now bytes))) × Drop drop × (at < end) ⌝ }
+    ensures { λ r. ⌜ unpackedPaper r ≡ restAnswer drop end (parse drop (dropped at (counted (now (bytes .entry))))) ⌝ }
+{
     if bit(bytes, at) == 0 {
         return Unpacked::Number {
             value: 0,

@@ -1,7 +1,6 @@
 // Writing a code: its bits as a number, put bit by bit at a position.
 use crate::Packed;
 use crate::read;
-
 ghost use mathlib.Core.Path.{_≡_};
 ghost use Prim.Native.Nat.{_+_, _-_, _*_, _/_, _%_, _^_, _<_, _≤_};
 ghost use lib.IntN.{natAbs};
@@ -39,7 +38,10 @@ pub fn code(drop: u32, sign: u32, m: u32) -> Held
     ensures { λ r. ⌜ Holds (r .number) (r .count) (bits drop (shapeOf drop sign m)) ⌝ }
 {
     if m < least_coded(drop) {
-        return Held { number: 0, count: 1 };
+        return Held {
+            number: 0,
+            count: 1,
+        };
     }
     if m < 16 {
         return coded(sign, 0, (m >> drop) as u64, 4 - drop);
@@ -67,7 +69,12 @@ fn big(drop: u32, sign: u32, m: u32) -> Held
     let parity = (k - 1) % 2;
     let width = ones + 1 - drop;
     let x = below(m, k, ones + parity + drop);
-    coded(sign, ones, join(parity as u64, 1, x as u64, width), 1 + width)
+    coded(
+        sign,
+        ones,
+        join(parity as u64, 1, x as u64, width),
+        1 + width,
+    )
 }
 
 // The place of the leading one of a big magnitude.

@@ -1,68 +1,60 @@
+-- `code::write::big` meets its contract: parity and field stand side by side after the run of ones.
+-- Assumes nothing.
+use Rattle.code.specs.Magnitudes.{drop-small}
+use Rattle.code.proofs.Writing.{big-holds, big-field-lt}
+use native.Mathlib.Omega.{arith}
 use borrow.Author.Needs.{needs}
 use Rattle.code.proofs.write.big.Statement.{statement}
 use Rattle.code.proofs.write.big.Tie as tie
-use Rattle.code.proofs.write.big.Reads as reads
-use Rattle.code.proofs.write.big.Lts as lts
-use Rattle.code.proofs.write.below.Reads as below-reads
-use Rattle.code.proofs.write.coded.Reads as coded-reads
-use Rattle.code.proofs.write.join.Reads as join-reads
-use Rattle.code.proofs.write.leading.Reads as leading-reads
 
--- src/write.rt:65:9
 leading-requires : tie.Need-leading-requires
 leading-requires c κs = search needs
 
--- src/write.rt:66:17
 sub-ones : tie.Need-sub-ones
 sub-ones c = search needs
 
--- src/write.rt:67:19
 sub-parity : tie.Need-sub-parity
 sub-parity c = search needs
 
--- src/write.rt:68:17
 add-width : tie.Need-add-width
 add-width c = search needs
 
--- src/write.rt:68:17
 sub-width : tie.Need-sub-width
-sub-width c = ?
+sub-width c = omega (arith, drop-small (c .before .pre .0))
 
--- src/write.rt:69:25
 add-below : tie.Need-add-below
 add-below c = search needs
 
--- src/write.rt:69:25
 add-below-2 : tie.Need-add-below-2
-add-below-2 c = ?
+add-below-2 c = omega (arith, drop-small (c .before .pre .0))
 
--- src/write.rt:69:9
 below-requires : tie.Need-below-requires
-below-requires c κs = ?
+below-requires c κs = omega (arith, drop-small (c .before .pre .0))
 
--- src/write.rt:70:28
 cast-join : tie.Need-cast-join
 cast-join c = search needs
 
--- src/write.rt:70:46
 cast-join-2 : tie.Need-cast-join-2
 cast-join-2 c = search needs
 
--- src/write.rt:70:23
 join-requires : tie.Need-join-requires
-join-requires c κs = ?
+join-requires c κs =
+    let a = c .before .before .args in
+    let k = c .before .leading in
+    (omega arith, big-field-lt (a .drop) (k .result) (a .m) _ (c .before .before .pre .0) (k .ensures .1) (c .below .ensures), omega arith)
 
--- src/write.rt:70:64
 add-coded : tie.Need-add-coded
 add-coded c = search needs
 
--- src/write.rt:70:5
 coded-requires : tie.Need-coded-requires
 coded-requires c κs = search needs
 
--- src/write.rt:61:1
 returns : tie.Need-returns
-returns c = ?
+returns c =
+    let a = c .before .before .before .before .args in
+    let k = c .before .before .before .leading in
+    big-holds (a .drop) (a .sign) (a .m) (k .result) (c .before .before .below .result) (c .before .join .result) _ _
+    (c .before .before .before .before .pre .0) (k .ensures .1) (k .ensures .0) (c .before .before .below .ensures) (c .before .join .ensures .0) (c .coded .ensures)
 
 pub big-spec : {M : Type 1} → statement M
 big-spec =

@@ -1,71 +1,76 @@
+-- `code::write::code` meets its contract: each test decides one line of the tables.
+-- Assumes nothing.
+use lib.Pow.{shr-le}
+use Prim.Native.Nat.{_+_, _%_}
+use Rattle.code.specs.Magnitudes.{drop-small}
+use Rattle.code.proofs.Writing.{nought-holds, small-holds, mid-holds, big-code-holds, small-field-lt, mid-field-lt}
+use native.Mathlib.Omega.{arith}
 use borrow.Author.Needs.{needs}
 use Rattle.code.proofs.write.code.Statement.{statement}
 use Rattle.code.proofs.write.code.Tie as tie
-use Rattle.code.proofs.write.code.Reads as reads
-use Rattle.code.proofs.write.code.Lts as lts
-use Rattle.code.proofs.write.big.Reads as big-reads
-use Rattle.code.proofs.write.coded.Reads as coded-reads
-use Rattle.code.proofs.write.least_coded.Reads as least-coded-reads
 
--- src/write.rt:41:12
 least-coded-requires : tie.Need-least-coded-requires
 least-coded-requires c κs = search needs
 
--- src/write.rt:42:9
 returns : tie.Need-returns
-returns c = ?
+returns c =
+    let a = c .before .before .args in
+    nought-holds (a .drop) (a .sign) (a .m) (omega (arith, c .before .least-coded .ensures, c .if1 .taken))
 
--- src/write.rt:45:32
 shr-coded : tie.Need-shr-coded
-shr-coded c = ?
+shr-coded c = omega (arith, drop-small (c .before .before .before .pre .0))
 
--- src/write.rt:45:31
 cast-coded : tie.Need-cast-coded
-cast-coded c = ?
+cast-coded c =
+    let a = c .before .before .before .args in
+    omega (arith, shr-le (a .m) (a .drop))
 
--- src/write.rt:45:51
 sub-coded : tie.Need-sub-coded
-sub-coded c = ?
+sub-coded c = omega (arith, drop-small (c .before .before .before .pre .0))
 
--- src/write.rt:45:9
 coded-requires : tie.Need-coded-requires
-coded-requires c κs = ?
+coded-requires c κs =
+    let p = c .before .before .before .pre in
+    (p .1, small-field-lt _ _ (p .0) (c .if2 .taken), omega arith)
 
--- src/write.rt:45:9
 returns-2 : tie.Need-returns-2
-returns-2 c = ?
+returns-2 c =
+    let a = c .before .before .before .before .args in
+    small-holds (a .drop) (a .sign) (a .m) _ _ _ (c .before .before .before .least-coded .ensures) (c .before .before .if1 .left) (c .before .if2 .taken) (c .coded .ensures)
 
--- src/write.rt:48:43
 add-coded : tie.Need-add-coded
-add-coded c = ?
+add-coded c = omega (arith, drop-small (c .before .before .before .before .pre .0))
 
--- src/write.rt:48:32
 shr-coded-2 : tie.Need-shr-coded-2
-shr-coded-2 c = ?
+shr-coded-2 c = omega (arith, drop-small (c .before .before .before .before .pre .0))
 
--- src/write.rt:48:31
 cast-coded-2 : tie.Need-cast-coded-2
-cast-coded-2 c = ?
+cast-coded-2 c =
+    let a = c .before .before .before .before .args in
+    omega (arith, shr-le (a .m % 16) (1 + a .drop))
 
--- src/write.rt:48:62
 sub-coded-2 : tie.Need-sub-coded-2
-sub-coded-2 c = ?
+sub-coded-2 c = drop-small (c .before .before .before .before .pre .0)
 
--- src/write.rt:48:9
 coded-requires-2 : tie.Need-coded-requires-2
-coded-requires-2 c κs = ?
+coded-requires-2 c κs =
+    let p = c .before .before .before .before .pre in
+    (p .1, mid-field-lt _ _ (p .0), omega arith)
 
--- src/write.rt:48:9
 returns-3 : tie.Need-returns-3
-returns-3 c = ?
+returns-3 c =
+    let a = c .before .before .before .before .before .args in
+    mid-holds (a .drop) (a .sign) (a .m) _ _ _ (c .before .before .before .before .least-coded .ensures) (c .before .before .before .if1 .left) (c .before .before .if2 .left)
+    (c .before .if3 .taken) (c .coded2 .ensures)
 
--- src/write.rt:50:5
 big-requires : tie.Need-big-requires
 big-requires c κs = search needs
 
--- src/write.rt:37:1
 returns-4 : tie.Need-returns-4
-returns-4 c = ?
+returns-4 c =
+    let a = c .before .before .before .before .before .args in
+    big-code-holds (a .drop) (a .sign) (a .m) _ _ _ (c .before .before .before .before .least-coded .ensures) (c .before .before .before .if1 .left) (c .before .before .if2 .left)
+    (c .before .if3 .left) (c .big .ensures)
 
 pub code-spec : {M : Type 1} → statement M
 code-spec =

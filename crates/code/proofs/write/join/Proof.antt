@@ -1,20 +1,18 @@
+-- `code::write::join` meets its contract: the shift loses nothing.
+-- Assumes nothing.
+use Rattle.code.proofs.Writing.{join-is, join-fits}
 use borrow.Author.Needs.{needs}
 use Rattle.code.proofs.write.join.Statement.{statement}
 use Rattle.code.proofs.write.join.Tie as tie
-use Rattle.code.proofs.write.join.Reads as reads
-use Rattle.code.proofs.write.join.Lts as lts
 
--- src/write.rt:114:6
 shl-result : tie.Need-shl-result
 shl-result c = search needs
 
--- src/write.rt:114:5
 add-result : tie.Need-add-result
-add-result c = ?
+add-result c = join-fits _ (c .args .count) _ (c .args .width) (c .pre .0) (c .pre .1) (c .pre .2)
 
--- src/write.rt:110:1
 returns : tie.Need-returns
-returns c = ?
+returns c = join-is _ (c .args .count) _ (c .args .width) (c .pre .0) (c .pre .1) (c .pre .2)
 
 pub join-spec : {M : Type 1} → statement M
 join-spec = tie.close (tie.spec shl-result add-result returns)

@@ -1,15 +1,14 @@
+-- `code::write::leading` meets its contract: the zeros above the leading one are counted.
+-- Assumes nothing.
+use Rattle.code.proofs.Writing.{leading-zeros, leading-zeros-few}
 use Rattle.code.proofs.write.leading.Statement.{statement}
 use Rattle.code.proofs.write.leading.Tie as tie
-use Rattle.code.proofs.write.leading.Reads as reads
-use Rattle.code.proofs.write.leading.Lts as lts
 
--- src/write.rt:78:5
 sub-result : tie.Need-sub-result
-sub-result c = ?
+sub-result c = leading-zeros-few _ (c .pre .0) (c .pre .1)
 
--- src/write.rt:74:1
 returns : tie.Need-returns
-returns c = ?
+returns c = leading-zeros _ (c .pre .0) (c .pre .1)
 
 pub leading-spec : {M : Type 1} → statement M
 leading-spec = tie.close (tie.spec sub-result returns)

@@ -1,31 +1,26 @@
+-- `code::write::magnitude` meets its contract: 64 bits hold the negation of every i32.
+-- Assumes nothing.
+use Rattle.code.proofs.Writing.{cast-fits, negated-fits, negated-cast, negated-is, natural-cast, natural-is}
 use Rattle.code.proofs.write.magnitude.Statement.{statement}
 use Rattle.code.proofs.write.magnitude.Tie as tie
-use Rattle.code.proofs.write.magnitude.Reads as reads
-use Rattle.code.proofs.write.magnitude.Lts as lts
 
--- src/write.rt:25:13
 cast-w : tie.Need-cast-w
-cast-w c = ?
+cast-w c = cast-fits _ (c .fits .v)
 
--- src/write.rt:26:17
 sub-result : tie.Need-sub-result
-sub-result c = ?
+sub-result c = negated-fits _ (c .before .fits .v) (c .if1 .taken)
 
--- src/write.rt:26:16
 cast-result : tie.Need-cast-result
-cast-result c = ?
+cast-result c = negated-cast _ (c .before .fits .v) (c .if1 .taken)
 
--- src/write.rt:26:40
 cast-result-2 : tie.Need-cast-result-2
-cast-result-2 c = ?
+cast-result-2 c = natural-cast _ (c .before .fits .v) (c .if1 .left)
 
--- src/write.rt:22:1
 returns : tie.Need-returns
-returns c = ?
+returns c = negated-is _ (c .before .fits .v) (c .if1 .taken)
 
--- src/write.rt:22:1
 returns-2 : tie.Need-returns-2
-returns-2 c = ?
+returns-2 c = natural-is _ (c .before .fits .v)
 
 pub magnitude-spec : {M : Type 1} → statement M
 magnitude-spec = tie.close (tie.spec cast-w sub-result cast-result cast-result-2 returns returns-2)

@@ -1,60 +1,64 @@
+-- `code::write::place` meets its contract: bits that do not fit change nothing; bits that fit stand at their place.
+-- Assumes nothing.
+use lib.Pow.{pow-pos}
+use Rattle.code.proofs.Writing.{place-short, place-there, pad-fits}
+use native.Mathlib.Omega.{arith}
 use borrow.Author.Needs.{needs}
 use Rattle.code.proofs.write.place.Statement.{statement}
 use Rattle.code.proofs.write.place.Tie as tie
-use Rattle.code.proofs.write.place.Reads as reads
-use Rattle.code.proofs.write.place.Lts as lts
-use Rattle.code.proofs.read.end_of.Reads as end-of-reads
-use Rattle.code.proofs.write.join.Reads as join-reads
-use Rattle.code.proofs.write.put.Reads as put-reads
-use Rattle.code.proofs.write.to_byte_end.Reads as to-byte-end-reads
 
--- src/write.rt:130:9
 end-of-requires : tie.Need-end-of-requires
 end-of-requires c κs = search needs
 
--- src/write.rt:132:9
 same-length : tie.Need-same-length
 same-length c = search needs
 
--- src/write.rt:132:9
 returns : tie.Need-returns
-returns c = ?
+returns c =
+    let a = c .before .before .before .before .args in
+    let e = c .before .end-of in
+    place-short (a .buffer .now) (a .at) (a .number) (a .count) (e .result) (e .ensures) (omega arith)
 
--- src/write.rt:135:9
 same-length-2 : tie.Need-same-length-2
 same-length-2 c = search needs
 
--- src/write.rt:135:9
 returns-2 : tie.Need-returns-2
-returns-2 c = ?
+returns-2 c =
+    let a = c .before .before .before .before .before .args in
+    let e = c .before .before .end-of in
+    place-short (a .buffer .now) (a .at) (a .number) (a .count) (e .result) (e .ensures) (omega arith)
 
--- src/write.rt:137:16
 add-next : tie.Need-add-next
 add-next c = search needs
 
--- src/write.rt:138:9
 to-byte-end-requires : tie.Need-to-byte-end-requires
 to-byte-end-requires c κs = search needs
 
--- src/write.rt:139:21
 join-requires : tie.Need-join-requires
-join-requires c κs = ?
+join-requires c κs =
+    let p = c .before .before .before .before .before .before .before .pre in
+    (p .0, pow-pos _, omega arith)
 
--- src/write.rt:139:50
 add-put : tie.Need-add-put
 add-put c = search needs
 
--- src/write.rt:139:5
 put-requires : tie.Need-put-requires
-put-requires c κs = ?
+put-requires c κs =
+    let a = c .before .before .before .before .before .before .before .before .args in
+    (pad-fits (a .buffer .now) (a .at) (a .count) _ (omega arith) (c .before .before .to-byte-end .ensures .0), omega arith)
 
--- src/write.rt:126:1
 same-length-3 : tie.Need-same-length-3
 same-length-3 c = search needs
 
--- src/write.rt:126:1
 returns-3 : tie.Need-returns-3
-returns-3 c = ?
+returns-3 c =
+    let a = c .before .before .before .before .before .before .before .before .before .before .before .args in
+    let e = c .before .before .before .before .before .before .before .before .end-of in
+    let t = c .before .before .before .before .before .to-byte-end in
+    let j = c .before .before .before .join in
+    let p = c .before .before .put in
+    place-there (a .buffer .now) (p .last .0) (a .at) (a .number) (a .count) (e .result) (t .result) (j .result) (e .ensures) (omega arith) (t .ensures .0)
+    (j .ensures .0) (p .kept .0) (λ i. omega (arith, c .slice-known2 .given i)) (p .ensures)
 
 pub place-spec : {M : Type 1} → statement M
 place-spec =

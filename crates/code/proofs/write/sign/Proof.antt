@@ -1,15 +1,14 @@
+-- `code::write::sign` meets its contract: 1 for negative.
+-- Assumes nothing.
+use Rattle.code.proofs.Writing.{sign-minus, sign-plus}
 use Rattle.code.proofs.write.sign.Statement.{statement}
 use Rattle.code.proofs.write.sign.Tie as tie
-use Rattle.code.proofs.write.sign.Reads as reads
-use Rattle.code.proofs.write.sign.Lts as lts
 
--- src/write.rt:30:1
 returns : tie.Need-returns
-returns c = ?
+returns c = sign-minus _ (c .before .fits .v) (c .if1 .taken)
 
--- src/write.rt:30:1
 returns-2 : tie.Need-returns-2
-returns-2 c = ?
+returns-2 c = sign-plus _ (c .before .fits .v) (c .if1 .left)
 
 pub sign-spec : {M : Type 1} → statement M
 sign-spec = tie.close (tie.spec returns returns-2)

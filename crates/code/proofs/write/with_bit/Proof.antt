@@ -1,45 +1,54 @@
+-- `code::write::with_bit` meets its contract: the bits before and after the place stay.
+-- Assumes nothing.
+use Rattle.code.proofs.Writing.{put-lt, top-small, put-bits}
+use native.Mathlib.Omega.{arith}
 use borrow.Author.Needs.{needs}
 use Rattle.code.proofs.write.with_bit.Statement.{statement}
 use Rattle.code.proofs.write.with_bit.Tie as tie
-use Rattle.code.proofs.write.with_bit.Reads as reads
-use Rattle.code.proofs.write.with_bit.Lts as lts
-use Rattle.code.proofs.write.power.Reads as power-reads
 
--- src/write.rt:184:22
 sub-power : tie.Need-sub-power
 sub-power c = search needs
 
--- src/write.rt:184:9
 power-requires : tie.Need-power-requires
 power-requires c κs = search needs
 
--- src/write.rt:185:6
 div-result : tie.Need-div-result
 div-result c = search needs
 
--- src/write.rt:185:6
 mul-result : tie.Need-mul-result
-mul-result c = ?
+mul-result c =
+    let a = c .before .args in
+    let p = c .before .pre in
+    omega (arith, top-small (a .byte) (a .place) (a .bit) (c .power .result) (p .0) (p .1) (p .2) (c .power .ensures .0))
 
--- src/write.rt:185:6
 add-result : tie.Need-add-result
-add-result c = ?
+add-result c =
+    let a = c .before .args in
+    let p = c .before .pre in
+    omega (arith, top-small (a .byte) (a .place) (a .bit) (c .power .result) (p .0) (p .1) (p .2) (c .power .ensures .0))
 
--- src/write.rt:185:5
 mul-result-2 : tie.Need-mul-result-2
-mul-result-2 c = ?
+mul-result-2 c =
+    let a = c .before .args in
+    let p = c .before .pre in
+    omega (arith, put-lt (a .byte) (a .place) (a .bit) (c .power .result) (p .0) (p .1) (p .2) (c .power .ensures .0))
 
--- src/write.rt:185:42
 rem-result : tie.Need-rem-result
 rem-result c = search needs
 
--- src/write.rt:185:5
 add-result-2 : tie.Need-add-result-2
-add-result-2 c = ?
+add-result-2 c =
+    let a = c .before .args in
+    let p = c .before .pre in
+    omega (arith, put-lt (a .byte) (a .place) (a .bit) (c .power .result) (p .0) (p .1) (p .2) (c .power .ensures .0))
 
--- src/write.rt:180:1
 returns : tie.Need-returns
-returns c = ?
+returns c =
+    let a = c .before .args in
+    let p = c .before .pre in (
+      put-bits (a .byte) (a .place) (a .bit) (c .power .result) (p .0) (p .1) (p .2) (c .power .ensures .0),
+      put-lt (a .byte) (a .place) (a .bit) (c .power .result) (p .0) (p .1) (p .2) (c .power .ensures .0),
+    )
 
 pub with-bit-spec : {M : Type 1} → statement M
 with-bit-spec =

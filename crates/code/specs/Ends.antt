@@ -1,0 +1,66 @@
+-- The exact meaning at zero and at both ends of the range.
+-- Assumes nothing.
+use mathlib.Core.Path.{_≡_, refl, ap}
+use mathlib.Core.Bool.{Bool, true, false, _&&_}
+use mathlib.Core.List.{List, [], _∷_}
+use Prim.Native.Nat.{ℕ, _+_}
+use lib.IntN.{ℤ, pos, negsuc, natAbs}
+use lib.ListN.{length}
+use lib.Dec.{leb}
+use Rattle.ground.specs.Choice.{pick}
+use Rattle.ground.specs.Paper.{Paper, accepted, refused}
+use Rattle.code.specs.Meaning.{codeOf, decoded, packMeans, packLeaves, dropTaken, largest, shapeOf, leadingIn, codeFits, bytesWith}
+
+-- zero and the largest magnitude of each sign, with each drop: bits of the code, and the number that it decodes to
+pub record EndsMean : Type 0 where
+  pub zero0 : (codeOf 0 (pos 0) ≡ 0 ∷ []) × (decoded 0 (pos 0) ≡ pos 0)
+  pub zero3 : (codeOf 3 (pos 0) ≡ 0 ∷ []) × (decoded 3 (pos 0) ≡ pos 0)
+  pub largest0 : (length (codeOf 0 (pos 33554431)) ≡ 27) × (decoded 0 (pos 33554431) ≡ pos 33552383)
+  pub largest3 : (length (codeOf 3 (pos 33554431)) ≡ 24) × (decoded 3 (pos 33554431) ≡ pos 33538047)
+  pub least0 : (length (codeOf 0 (negsuc 33554430)) ≡ 27) × (decoded 0 (negsuc 33554430) ≡ negsuc 33552382)
+  pub least3 : (length (codeOf 3 (negsuc 33554430)) ≡ 24) × (decoded 3 (negsuc 33554430) ≡ negsuc 33538046)
+
+-- each of them holds by computing
+pub ends-mean : EndsMean
+unfolding shapeOf leadingIn
+ends-mean =
+    record {
+      zero0 = (refl, refl);
+      zero3 = (refl, refl);
+      largest0 = (refl, refl);
+      largest3 = (refl, refl);
+      least0 = (refl, refl);
+      least3 = (refl, refl);
+    }
+
+-- writing a number refuses by 8 and leaves the buffer
+pub record Refuses (v : ℤ) : Type 0 where
+  pub answer : (buffer : List ℕ) (at d : ℕ) → packMeans buffer at v d ≡ refused 8
+  pub memory : (buffer : List ℕ) (at d : ℕ) → packLeaves buffer at v d ≡ buffer
+
+-- a test that fails fails with any other before it
+fails : (a b : Bool) → b ≡ false → (a && b) ≡ false
+fails true b e = e
+fails false b e = refl
+
+-- a magnitude over the largest is outside the rule, whatever the drop
+pub refuses : (v : ℤ) → leb (natAbs v) largest ≡ false → Refuses v
+refuses v over =
+    record {
+      answer = λ buffer at d.
+          ap (λ (b : Bool). pick b (pick (codeFits buffer at v d) (accepted (at + length (codeOf d v))) (refused 3)) (refused 8))
+          (fails (dropTaken d) (leb (natAbs v) largest) over);
+      memory = λ buffer at d.
+          ap (λ (b : Bool). pick (b && codeFits buffer at v d) (bytesWith buffer at (codeOf d v)) buffer)
+          (fails (dropTaken d) (leb (natAbs v) largest) over);
+    }
+
+-- just over the range, and the smallest i32
+pub refuses-over : Refuses (pos 33554432)
+refuses-over = refuses (pos 33554432) refl
+
+pub refuses-under : Refuses (negsuc 33554431)
+refuses-under = refuses (negsuc 33554431) refl
+
+pub refuses-smallest : Refuses (negsuc 2147483647)
+refuses-smallest = refuses (negsuc 2147483647) refl

@@ -1,0 +1,26 @@
+-- Two outcomes that meet a call's promise are equal, answer and memory.
+-- Assumes nothing.
+use mathlib.Core.Path.{_≡_}
+use mathlib.Core.List.{List}
+use Prim.Native.Nat.{ℕ}
+use lib.IntN.{ℤ}
+use Rattle.ground.specs.Paper.{one-answer, one-value}
+use Rattle.code.specs.Answers.{packedPaper, packedBack, packed-home, unpackedPaper, unpackedBack, unpacked-home}
+use Rattle.code.specs.Promise.{PackPromise, UnpackPromise, ReaderPromise}
+use denote.Ref.{RefT}
+use Rattle.code.specs.declared.Reader.{Reader}
+use Rattle.code.specs.declared.Packed.{Packed}
+use Rattle.code.specs.declared.Unpacked.{Unpacked}
+
+-- writing has one outcome
+pub pack-one : {buffer : List ℕ} {at : ℕ} {v : ℤ} {d : ℕ} {r s : Packed} {a b : List ℕ}
+    → PackPromise buffer at v d r a → PackPromise buffer at v d s b → (r ≡ s) × (a ≡ b)
+pack-one p q = (one-answer packedPaper packedBack packed-home (p .answer) (q .answer), one-value (p .memory) (q .memory))
+
+-- reading has one outcome, by `unpack`, by a reader and by the call above them
+pub unpack-one : {bytes : List ℕ} {at d : ℕ} {r s : Unpacked} → UnpackPromise bytes at d r → UnpackPromise bytes at d s → r ≡ s
+unpack-one p q = one-answer unpackedPaper unpackedBack unpacked-home (p .answer) (q .answer)
+
+-- making and moving a reader have one outcome: the same lent bytes, the same position
+pub reader-one : {bytes : RefT (List ℕ)} {at : ℕ} {r s : Reader} → ReaderPromise bytes at r → ReaderPromise bytes at s → r ≡ s
+reader-one p q = λ i. record { bytes = one-value (p .lent) (q .lent) i; at = one-value (p .place) (q .place) i }
