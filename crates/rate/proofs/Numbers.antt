@@ -1,0 +1,178 @@
+-- Laws that the proof of `reading` cites: what the code's answer says of the number, its shape and its reading.
+-- Assumes nothing.
+use mathlib.Core.Path.{_≡_, refl, sym, ap, ap₂, _∙_, subst}
+use mathlib.Core.Bool.{Bool, true, false}
+use mathlib.Core.Logic.{inl, inr}
+use mathlib.Core.List.{List, [], _∷_}
+use Prim.Native.Nat.{ℕ, zero, suc, _+_, _-_, _^_, _<_, _≤_}
+use native.Mathlib.Omega.{arith}
+use lib.IntN.{ℤ, pos, negsuc, natAbs}
+use lib.Signed.{ltZ, nonNeg}
+use lib.ListN.{length, drop}
+use lib.Dec.{T}
+use borrow.Author.Tests.{ltb-true}
+use denote.Enum.Declared.{tagOf}
+use types.Run.{OneOf}
+use mir.Syntax.{w32}
+use mir.Val.{toZ, ofZ, SFits, Fits}
+use mir.ValLaws.{toZ-ofZ}
+use Rattle.ground.specs.Choice.{pick}
+use Rattle.ground.specs.Paper.{Paper, accepted, refused}
+use Rattle.code.specs.Meaning.{Shape, shapeOf, shapeOfNumber, magnitude, value, sign, Parsed, found, ranOut, redundantZero, runTooLong, parseAt, counted, bits, Taken, answerOf, unpackMeans, dropTaken, largest}
+use Rattle.code.specs.Shapes.{Drop, drop-of, Valid, found-exact, false-true}
+use Rattle.code.specs.BitLists.{allBits-drop}
+use Rattle.code.specs.Positions.{allBits-counted}
+use Rattle.code.specs.Magnitudes.{shape-of-value, magnitude-fits, magnitude-positive, sign-bit, signed-back}
+use Rattle.code.specs.Answers.{unpackedPaper}
+use Rattle.code.specs.Promise.{UnpackPromise}
+use Rattle.code.proofs.Unpacked
+use Rattle.code.specs.declared.Unpacked.{Unpacked}
+use Rattle.code.specs.declared.Unpacked.the-variants as U
+use Rattle.rate.specs.declared.record.Reading.{Reading}
+use Rattle.rate.specs.declared.Refusal.{Refusal}
+use Rattle.rate.specs.Meaning.{refusalNumber, ReadingValues, onward, codeRead, negative, numberReads, readingOf, readingMeans}
+use Rattle.rate.specs.Steps.{refusalOf, Decoded}
+
+-- an accepted code: the shape that was read, and that the number is its value
+pub record Read (bytes : List ℕ) (at d : ℕ) (t : Taken) : Type 0 where
+  pub taken : Drop d
+  pub valid : Valid d (codeRead (parseAt bytes at d))
+  pub value-is : t .value ≡ value d (codeRead (parseAt bytes at d))
+
+-- what is accepted was read
+pub accepted-read : (bytes : List ℕ) (at d : ℕ) (t : Taken) → unpackMeans bytes at d ≡ accepted t → Read bytes at d t
+accepted-read bytes at d t = go (dropTaken d) refl (parseAt bytes at d) refl
+  where
+    never : {n : ℕ} → _≡_ {A = Paper Taken} (refused n) (accepted t) → ⊥
+    never g = let z : _≡_ {A = ℕ} 0 1 = cc in omega arith
+
+    go : (b : Bool) → dropTaken d ≡ b → (q : Parsed) → parseAt bytes at d ≡ q → pick b (answerOf d at q) (refused 8) ≡ accepted t
+        → Read bytes at d t
+    go true e (found shape rest) f g =
+        let same : codeRead (parseAt bytes at d) ≡ shape = ap codeRead f in
+        let fine = found-exact d (drop at (counted bytes)) (allBits-drop at (counted bytes) (allBits-counted bytes)) f in
+        let z : record { value = value d shape; next = at + length (bits d shape) } ≡ t = cc in
+        record {
+          taken = drop-of d e;
+          valid = subst (Valid d) (sym same) (fine .1);
+          value-is = ap (λ (u : Taken). u .value) (sym z) ∙ ap (value d) (sym same);
+        }
+    go true e ranOut f g = absurd (never g)
+    go true e redundantZero f g = absurd (never g)
+    go true e runTooLong f g = absurd (never g)
+    go false e q f g = absurd (never g)
+
+-- a number that was read and is not negative is a decoded magnitude, of the shape that was read
+record Natural (bytes : List ℕ) (at d m : ℕ) : Type 0 where
+  shape : shapeOf d 0 m ≡ codeRead (parseAt bytes at d)
+  decoded : Decoded d m
+
+natural : (bytes : List ℕ) (at d m next : ℕ) → Read bytes at d (record { value = pos m; next = next }) → Natural bytes at d m
+natural bytes at d m next r =
+    let read : Shape = codeRead (parseAt bytes at d) in
+    let same : shapeOf d 0 m ≡ read = ap (shapeOfNumber d) (r .value-is) ∙ shape-of-value d read (r .taken) (r .valid) in
+    let back : natAbs (value d read) ≡ magnitude d read =
+    signed-back (sign read) (magnitude d read) (sign-bit d read (r .valid)) (magnitude-positive d read (r .taken) (r .valid)) .1 in
+    let size : m ≡ magnitude d read = ap natAbs (r .value-is) ∙ back in
+    record {
+      shape = same;
+      decoded = record {
+        taken = r .taken;
+        fits = subst (λ (n : ℕ). n ≤ largest) (sym size) (magnitude-fits d read (r .taken) (r .valid));
+        decoded = ap (magnitude d) same ∙ sym size;
+      };
+    }
+
+-- every number that was read fits
+number-fits : (bytes : List ℕ) (at d : ℕ) (t : Taken) → Read bytes at d t → SFits w32 (t .value)
+number-fits bytes at d t r =
+    let read : Shape = codeRead (parseAt bytes at d) in
+    let back : natAbs (value d read) ≡ magnitude d read =
+    signed-back (sign read) (magnitude d read) (sign-bit d read (r .valid)) (magnitude-positive d read (r .taken) (r .valid)) .1 in
+    let small : natAbs (t .value) ≤ largest =
+    subst (λ (n : ℕ). n ≤ largest) (sym (ap natAbs (r .value-is) ∙ back)) (magnitude-fits d read (r .taken) (r .valid)) in
+    go (t .value) small
+  where
+    go : (v : ℤ) → natAbs v ≤ largest → SFits w32 v
+    go (pos n) h = record { sfits = omega arith }
+    go (negsuc n) h = record { sfits = omega arith }
+
+-- the tag of a number is none of the refusals'
+no-number : OneOf (1 ∷ 2 ∷ 3 ∷ 4 ∷ []) 0 → ⊥
+no-number (inl e) = omega arith
+no-number (inr (inl e)) = omega arith
+no-number (inr (inr (inl e))) = omega arith
+no-number (inr (inr (inr e))) = omega arith
+
+-- a code's refusal is handed on
+pub refusal-read : (bytes : List ℕ) (at d : ℕ) (r : Unpacked) (why : Refusal) → UnpackPromise bytes at d r
+    → OneOf (1 ∷ 2 ∷ 3 ∷ 4 ∷ []) (tagOf Rattle.code.proofs.Unpacked.the-type r) → why ≡ refusalOf r → refused (refusalNumber why) ≡ readingMeans bytes at d
+refusal-read bytes at d r why p n e =
+    ap (λ (w : Refusal). refused (refusalNumber w)) e ∙ go r n ∙ ap (onward (numberReads d (codeRead (parseAt bytes at d)))) (p .answer)
+  where
+    go : (r : Unpacked) → OneOf (1 ∷ 2 ∷ 3 ∷ 4 ∷ []) (tagOf Rattle.code.proofs.Unpacked.the-type r)
+        → refused (refusalNumber (refusalOf r)) ≡ onward (numberReads d (codeRead (parseAt bytes at d))) (unpackedPaper r)
+    go (U.Number v next) n = absurd (no-number n)
+    go U.OutsideRule n = refl
+    go U.RanOut n = refl
+    go U.RedundantZero n = refl
+    go U.RunTooLong n = refl
+
+-- a number under 0
+below : (v : ℤ) → ltZ v (pos 0) ≡ true → negative v ≡ true
+below (pos n) t = absurd (omega (arith, ltb-true n 0 t))
+below (negsuc n) t = refl
+
+-- a number that is not
+above : (v : ℤ) → ltZ v (pos 0) ≡ false → v ≡ pos (natAbs v)
+above (pos n) t = refl
+above (negsuc n) t = absurd (false-true (sym t))
+
+module _ (bytes : List ℕ) (at d : ℕ) {r : Unpacked} (v : ℤ) (next : ℕ) (p : UnpackPromise bytes at d r) (e : r ≡ U.Number v next) where
+  -- the number that was read, as the definitions have it
+  means : unpackMeans bytes at d ≡ accepted (record { value = v; next = next })
+  means = sym (p .answer) ∙ ap unpackedPaper e
+
+  was-read : Read bytes at d (record { value = v; next = next })
+  was-read = accepted-read bytes at d (record { value = v; next = next }) means
+
+  -- what 32 bits hold is the number
+  back : toZ w32 (ofZ w32 v) ≡ v
+  back = toZ-ofZ w32 v (number-fits bytes at d (record { value = v; next = next }) was-read)
+
+  -- a negative number has no reading
+  pub negative-read : ltZ (toZ w32 (ofZ w32 v)) (pos 0) ≡ true → refused 8 ≡ readingMeans bytes at d
+  negative-read t =
+      let minus : negative v ≡ true = below v (subst (λ (z : ℤ). ltZ z (pos 0) ≡ true) back t) in
+      let same : numberReads d (codeRead (parseAt bytes at d)) (record { value = v; next = next }) ≡ refused 8 = rw minus in
+      sym (ap (onward (numberReads d (codeRead (parseAt bytes at d)))) means ∙ same)
+
+  module _ (t : ltZ (toZ w32 (ofZ w32 v)) (pos 0) ≡ false) where
+    plus : v ≡ pos (natAbs v)
+    plus = above v (subst (λ (z : ℤ). ltZ z (pos 0) ≡ false) back t)
+
+    found-natural : Natural bytes at d (natAbs v)
+    found-natural =
+        natural bytes at d (natAbs v) next (subst (λ (z : ℤ). Read bytes at d (record { value = z; next = next })) plus was-read)
+
+    -- any other number is a magnitude
+    pub natural-cast : T (nonNeg (toZ w32 (ofZ w32 v))) × Fits w32 (natAbs (toZ w32 (ofZ w32 v)))
+    natural-cast =
+        let small = found-natural .decoded .fits in
+        subst (λ (z : ℤ). T (nonNeg z) × Fits w32 (natAbs z)) (sym (back ∙ plus)) (tt, record { fits = omega (arith, small) })
+
+    -- one that a code decodes to
+    pub natural-decoded : Decoded d (natAbs (toZ w32 (ofZ w32 v)))
+    natural-decoded = subst (λ (z : ℤ). Decoded d (natAbs z)) (sym back) (found-natural .decoded)
+
+    -- and is read as its code
+    pub natural-read : (reading : Reading) → reading ≡ readingOf d (shapeOf d 0 (natAbs (toZ w32 (ofZ w32 v))))
+        → accepted (record { reading = reading; next = next }) ≡ readingMeans bytes at d
+    natural-read reading q =
+        let same : reading ≡ readingOf d (codeRead (parseAt bytes at d)) =
+        q ∙ ap (λ (z : ℤ). readingOf d (shapeOf d 0 (natAbs z))) back ∙ ap (readingOf d) (found-natural .shape) in
+        let not-minus : negative v ≡ false = ap negative plus in
+        let as-number : numberReads d (codeRead (parseAt bytes at d)) (record { value = v; next = next })
+        ≡ accepted (record { reading = readingOf d (codeRead (parseAt bytes at d)); next = next }) = rw not-minus in
+        ap (λ (x : Reading). accepted (record { reading = x; next = next })) same
+        ∙ sym (ap (onward (numberReads d (codeRead (parseAt bytes at d)))) means ∙ as-number)
