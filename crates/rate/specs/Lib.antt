@@ -3,4 +3,7 @@ pub mod Answers
 pub mod Promise
 pub mod Steps
 pub mod OneOutcome
+pub mod Readings
+pub mod Bands
+pub mod Lossless
 pub mod Cases
