@@ -1,20 +1,16 @@
 -- Laws that the proofs of the band cite: the error of the code that a magnitude has, and the band around a decoded magnitude.
 -- Assumes nothing.
-use mathlib.Core.Path.{_≡_, refl, sym, ap, ap₂, _∙_, subst}
-use mathlib.Core.Bool.{Bool, true, false}
-use Prim.Native.Nat.{ℕ, zero, suc, _+_, _*_, _-_, _/_, _%_, _^_, _<_, _≤_}
+use mathlib.Core.Path.{_≡_, refl, sym, ap, ap₂, _∙_}
+use Prim.Native.Nat.{ℕ, suc, _+_, _*_, _-_, _/_, _%_, _^_, _<_, _≤_}
 use native.Mathlib.Nat.{mod-eq-of-lt}
 use native.Mathlib.Omega.{arith}
 use lib.Count.{leadingZeros, leading-top}
-use lib.Pow.{pow-pos, pow-mono}
-use lib.Ieee.{Float}
+use lib.Pow.{pow-mono}
 use borrow.Author.Tests.{eq-eqb, ne-eqb}
-use Rattle.ground.specs.Choice.{pick}
 use Rattle.code.specs.Meaning.{Shape, shapeOf, leading, leftOut, magnitude, largest, longestRun}
 use Rattle.code.specs.Shapes.{Drop, none, three}
 use Rattle.code.specs.Magnitudes.{shape-elim, leading-is, exponent-lt}
-use Rattle.rate.specs.Meaning.{error, exact, band, asFloat, readingOf}
-use Rattle.rate.specs.declared.record.Reading.{Reading}
+use Rattle.rate.specs.Meaning.{error, asFloat, readingOf}
 use Rattle.rate.specs.declared.record.Reading.the-variants.{Exact, Between}
 
 -- with drop 0 a magnitude under 16 has no error

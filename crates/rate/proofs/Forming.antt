@@ -1,6 +1,6 @@
 -- Laws that the proof of `rate` cites: a reading over a level's seconds.
 -- Assumes nothing.
-use mathlib.Core.Path.{_≡_, refl, sym, ap, _∙_}
+use mathlib.Core.Path.{_≡_, sym, ap, _∙_}
 use mathlib.Core.List.{List}
 use Prim.Native.Nat.{ℕ}
 use Rattle.ground.specs.Paper.{Paper, accepted, refused}
@@ -14,7 +14,7 @@ use Rattle.rate.specs.declared.record.Rate.{Rate}
 use Rattle.rate.specs.declared.Refusal.{Refusal}
 use Rattle.rate.specs.declared.Counted.{Counted}
 use Rattle.rate.specs.declared.Counted.the-variants as C
-use Rattle.rate.specs.Meaning.{refusalNumber, ReadingValues, RateValues, onward, rateOf, rateValues, readingMeans, rateMeans}
+use Rattle.rate.specs.Meaning.{refusalNumber, ReadingValues, RateValues, onward, rateOf, rateValues, rateMeans}
 use Rattle.rate.specs.Answers.{countedPaper}
 use Rattle.rate.specs.Promise.{ReadingPromise}
 use Rattle.rate.specs.Steps.{refusalIn}

@@ -1,14 +1,13 @@
 -- Laws that the proof of `reading` cites: what the code's answer says of the number, its shape and its reading.
 -- Assumes nothing.
-use mathlib.Core.Path.{_≡_, refl, sym, ap, ap₂, _∙_, subst}
-use mathlib.Core.Bool.{Bool, true, false}
+use mathlib.Core.Path.{_≡_, refl, sym, ap, _∙_, subst}
+use mathlib.Core.Bool.{true, false}
 use mathlib.Core.Logic.{inl, inr}
 use mathlib.Core.List.{List, [], _∷_}
-use Prim.Native.Nat.{ℕ, zero, suc, _+_, _-_, _^_, _<_, _≤_}
+use Prim.Native.Nat.{ℕ, _≤_}
 use native.Mathlib.Omega.{arith}
 use lib.IntN.{ℤ, pos, negsuc, natAbs}
 use lib.Signed.{ltZ, nonNeg}
-use lib.ListN.{length, drop}
 use lib.Dec.{T}
 use borrow.Author.Tests.{ltb-true}
 use denote.Enum.Declared.{tagOf}
@@ -16,12 +15,9 @@ use types.Run.{OneOf}
 use mir.Syntax.{w32}
 use mir.Val.{toZ, ofZ, SFits, Fits}
 use mir.ValLaws.{toZ-ofZ}
-use Rattle.ground.specs.Choice.{pick}
-use Rattle.ground.specs.Paper.{Paper, accepted, refused}
-use Rattle.code.specs.Meaning.{Shape, shapeOf, shapeOfNumber, magnitude, value, sign, Parsed, found, ranOut, redundantZero, runTooLong, parseAt, counted, bits, Taken, answerOf, unpackMeans, dropTaken, largest}
-use Rattle.code.specs.Shapes.{Drop, drop-of, Valid, found-exact, false-true}
-use Rattle.code.specs.BitLists.{allBits-drop}
-use Rattle.code.specs.Positions.{allBits-counted}
+use Rattle.ground.specs.Paper.{accepted, refused}
+use Rattle.code.specs.Meaning.{Shape, shapeOf, shapeOfNumber, magnitude, value, sign, parseAt, Taken, unpackMeans, largest}
+use Rattle.code.specs.Shapes.{false-true}
 use Rattle.code.specs.Magnitudes.{shape-of-value, magnitude-fits, magnitude-positive, sign-bit, signed-back}
 use Rattle.code.specs.Answers.{unpackedPaper}
 use Rattle.code.specs.Promise.{UnpackPromise}
@@ -30,44 +26,16 @@ use Rattle.code.specs.declared.Unpacked.{Unpacked}
 use Rattle.code.specs.declared.Unpacked.the-variants as U
 use Rattle.rate.specs.declared.record.Reading.{Reading}
 use Rattle.rate.specs.declared.Refusal.{Refusal}
-use Rattle.rate.specs.Meaning.{refusalNumber, ReadingValues, onward, codeRead, negative, numberReads, readingOf, readingMeans}
+use Rattle.rate.specs.Meaning.{refusalNumber, onward, codeRead, negative, numberReads, readingOf, readingMeans}
+use Rattle.rate.specs.Readings.{WasRead, was-accepted}
 use Rattle.rate.specs.Steps.{refusalOf, Decoded}
-
--- an accepted code: the shape that was read, and that the number is its value
-pub record Read (bytes : List ℕ) (at d : ℕ) (t : Taken) : Type 0 where
-  pub taken : Drop d
-  pub valid : Valid d (codeRead (parseAt bytes at d))
-  pub value-is : t .value ≡ value d (codeRead (parseAt bytes at d))
-
--- what is accepted was read
-pub accepted-read : (bytes : List ℕ) (at d : ℕ) (t : Taken) → unpackMeans bytes at d ≡ accepted t → Read bytes at d t
-accepted-read bytes at d t = go (dropTaken d) refl (parseAt bytes at d) refl
-  where
-    never : {n : ℕ} → _≡_ {A = Paper Taken} (refused n) (accepted t) → ⊥
-    never g = let z : _≡_ {A = ℕ} 0 1 = cc in omega arith
-
-    go : (b : Bool) → dropTaken d ≡ b → (q : Parsed) → parseAt bytes at d ≡ q → pick b (answerOf d at q) (refused 8) ≡ accepted t
-        → Read bytes at d t
-    go true e (found shape rest) f g =
-        let same : codeRead (parseAt bytes at d) ≡ shape = ap codeRead f in
-        let fine = found-exact d (drop at (counted bytes)) (allBits-drop at (counted bytes) (allBits-counted bytes)) f in
-        let z : record { value = value d shape; next = at + length (bits d shape) } ≡ t = cc in
-        record {
-          taken = drop-of d e;
-          valid = subst (Valid d) (sym same) (fine .1);
-          value-is = ap (λ (u : Taken). u .value) (sym z) ∙ ap (value d) (sym same);
-        }
-    go true e ranOut f g = absurd (never g)
-    go true e redundantZero f g = absurd (never g)
-    go true e runTooLong f g = absurd (never g)
-    go false e q f g = absurd (never g)
 
 -- a number that was read and is not negative is a decoded magnitude, of the shape that was read
 record Natural (bytes : List ℕ) (at d m : ℕ) : Type 0 where
   shape : shapeOf d 0 m ≡ codeRead (parseAt bytes at d)
   decoded : Decoded d m
 
-natural : (bytes : List ℕ) (at d m next : ℕ) → Read bytes at d (record { value = pos m; next = next }) → Natural bytes at d m
+natural : (bytes : List ℕ) (at d m next : ℕ) → WasRead bytes at d (record { value = pos m; next = next }) → Natural bytes at d m
 natural bytes at d m next r =
     let read : Shape = codeRead (parseAt bytes at d) in
     let same : shapeOf d 0 m ≡ read = ap (shapeOfNumber d) (r .value-is) ∙ shape-of-value d read (r .taken) (r .valid) in
@@ -84,7 +52,7 @@ natural bytes at d m next r =
     }
 
 -- every number that was read fits
-number-fits : (bytes : List ℕ) (at d : ℕ) (t : Taken) → Read bytes at d t → SFits w32 (t .value)
+number-fits : (bytes : List ℕ) (at d : ℕ) (t : Taken) → WasRead bytes at d t → SFits w32 (t .value)
 number-fits bytes at d t r =
     let read : Shape = codeRead (parseAt bytes at d) in
     let back : natAbs (value d read) ≡ magnitude d read =
@@ -133,8 +101,8 @@ module _ (bytes : List ℕ) (at d : ℕ) {r : Unpacked} (v : ℤ) (next : ℕ) (
   means : unpackMeans bytes at d ≡ accepted (record { value = v; next = next })
   means = sym (p .answer) ∙ ap unpackedPaper e
 
-  was-read : Read bytes at d (record { value = v; next = next })
-  was-read = accepted-read bytes at d (record { value = v; next = next }) means
+  was-read : WasRead bytes at d (record { value = v; next = next })
+  was-read = was-accepted bytes at d (record { value = v; next = next }) means
 
   -- what 32 bits hold is the number
   back : toZ w32 (ofZ w32 v) ≡ v
@@ -153,7 +121,7 @@ module _ (bytes : List ℕ) (at d : ℕ) {r : Unpacked} (v : ℤ) (next : ℕ) (
 
     found-natural : Natural bytes at d (natAbs v)
     found-natural =
-        natural bytes at d (natAbs v) next (subst (λ (z : ℤ). Read bytes at d (record { value = z; next = next })) plus was-read)
+        natural bytes at d (natAbs v) next (subst (λ (z : ℤ). WasRead bytes at d (record { value = z; next = next })) plus was-read)
 
     -- any other number is a magnitude
     pub natural-cast : T (nonNeg (toZ w32 (ofZ w32 v))) × Fits w32 (natAbs (toZ w32 (ofZ w32 v)))

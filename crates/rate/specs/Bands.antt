@@ -1,16 +1,14 @@
 -- Theorems of bands: every number that packs lies within the band of its code, and exact means that the band is one count.
 -- Assumes nothing.
-use mathlib.Core.Path.{_≡_, refl, sym, ap, ap₂, _∙_}
+use mathlib.Core.Path.{_≡_, ap, ap₂, _∙_}
 use mathlib.Core.Bool.{true}
 use Prim.Native.Nat.{ℕ, zero, suc, _+_, _*_, _-_, _^_, _<_, _≤_}
-use native.Mathlib.Nat.{le-trans, pow-suc, add-zero}
+use native.Mathlib.Nat.{le-trans, pow-suc}
 use native.Mathlib.Omega.{arith}
 use lib.IntN.{ℤ, natAbs}
-use lib.Dec.{eqb}
 use lib.Pow.{pow-pos, pow-mono}
-use borrow.Author.Tests.{eq-eqb, ne-eqb, eqb-true}
-use Rattle.ground.specs.Choice.{pick}
-use Rattle.code.specs.Meaning.{Shape, nought, small, mid, big, shapeOfNumber, signOf, magnitude, filled, largest, longestRun}
+use borrow.Author.Tests.{eq-eqb, eqb-true}
+use Rattle.code.specs.Meaning.{Shape, nought, small, mid, big, shapeOfNumber, signOf, magnitude, filled, largest}
 use Rattle.code.specs.Shapes.{Drop, none, three, Valid}
 use Rattle.code.specs.Magnitudes.{lowest, highest, shape-bounds, number-valid, magnitude-fits, drop-small}
 use Rattle.rate.specs.Meaning.{error, Band, band, exact}

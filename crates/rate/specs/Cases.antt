@@ -1,12 +1,11 @@
 -- Rows of the tables and document 01's codes, by computing.
 -- Assumes nothing.
 use mathlib.Core.Path.{_≡_, refl}
-use mathlib.Core.List.{List, [], _∷_}
-use Prim.Native.Nat.{ℕ}
-use Rattle.ground.specs.Paper.{accepted}
-use Rattle.code.specs.Meaning.{Shape, nought, small, mid, big, parse, afterSign, counted}
+use mathlib.Core.List.{[], _∷_}
+use Rattle.ground.specs.Paper.{accepted, refused}
+use Rattle.code.specs.Meaning.{nought, small, mid, big, parse, afterSign, counted}
 use Rattle.rate.specs.declared.record.Reading.the-variants.{Exact, Between}
-use Rattle.rate.specs.Meaning.{error, band, asFloat, readingOf, readingMeans, rateMeans, rateOf}
+use Rattle.rate.specs.Meaning.{error, band, asFloat, readingMeans, rateMeans}
 
 -- the second column of table 14, row by row
 pub table-14 : error 0 nought ∷ error 0 (small 0 1) ∷ error 0 (mid 0 0) ∷ error 0 (big 0 2 0 0) ∷ error 0 (big 0 2 1 0) ∷ error 0 (big 0 3 0 0) ∷ error 0 (big 0 3 1 0) ∷ error 0 (big 0 4 0 0) ∷ error 0 (big 0 4 1 0) ∷ error 0 (big 0 7 1 0) ∷ []
@@ -30,3 +29,20 @@ band-of-nought = refl
 pub five-is-exact : readingMeans (138 ∷ []) 0 0 ≡ accepted (record { reading = Exact (asFloat 5); next = 7 })
 unfolding parse afterSign counted
 five-is-exact = refl
+
+-- drop 3's `0` at bit 4 is read as 0 to 3
+pub nought-is-a-band : readingMeans (240 ∷ []) 4 3 ≡ accepted (record { reading = Between (asFloat 0) (asFloat 3); next = 5 })
+unfolding parse afterSign counted
+nought-is-a-band = refl
+
+-- "Rate: the code's refusal, then a negative number's 8, then 19": at level 8 a drop of 1, no bits, a redundant zero, twelve ones, -16, and 5
+pub rate-refusals : rateMeans (138 ∷ []) 0 1 8
+    ∷ rateMeans [] 0 0 8
+    ∷ rateMeans (128 ∷ []) 0 0 8
+    ∷ rateMeans (255 ∷ 255 ∷ []) 0 0 8
+    ∷ rateMeans (224 ∷ []) 0 0 8
+    ∷ rateMeans (138 ∷ []) 0 0 8
+    ∷ []
+    ≡ refused 8 ∷ refused 9 ∷ refused 10 ∷ refused 11 ∷ refused 8 ∷ refused 19 ∷ []
+unfolding parse afterSign counted
+rate-refusals = refl

@@ -5,5 +5,6 @@ pub mod Steps
 pub mod OneOutcome
 pub mod Readings
 pub mod Bands
+pub mod Packed
 pub mod Lossless
 pub mod Cases

@@ -6,14 +6,14 @@ use Prim.Native.Nat.{ℕ, _^_, _<_, _≤_}
 use native.Mathlib.Omega.{arith}
 use lib.IntN.{pos}
 use lib.Dec.{T, le→leb}
-use lib.Ieee.{Float, binary64, ofInt, inFloat, toUnsigned}
+use lib.Ieee.{binary64, ofInt, inFloat, toUnsigned}
 use lib.Ieee.Exact.{HasValue}
 use lib.Ieee.Back.{unsigned-back, round-whole}
 use Rattle.code.specs.Meaning.{Shape}
 use Rattle.code.specs.Shapes.{Drop, Valid}
 use Rattle.cadence.specs.Meaning.{lengthOf}
 use Rattle.cadence.specs.Lengths.{lasts}
-use Rattle.rate.specs.Meaning.{Band, band, asFloat}
+use Rattle.rate.specs.Meaning.{band, asFloat}
 use Rattle.rate.specs.Bands.{band-fits}
 
 -- a count of 32 bits is a whole number that an f64 holds

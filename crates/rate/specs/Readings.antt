@@ -1,23 +1,38 @@
 -- What callers use of readings and rates: what a code that was read gives, and which refusal comes when.
 -- Assumes nothing.
 use mathlib.Core.Path.{_≡_, refl, sym, ap, ap₂, _∙_, subst}
-use mathlib.Core.Bool.{Bool, true, false}
+use mathlib.Core.Bool.{true, false}
 use mathlib.Core.List.{List}
 use Prim.Native.Nat.{ℕ, zero, suc, _+_, _<_, _≤_}
 use native.Mathlib.Omega.{arith}
-use lib.IntN.{ℤ, pos, negsuc, natAbs}
 use lib.ListN.{length}
 use borrow.Author.Tests.{lt-ltb, le-ltb}
-use Rattle.ground.specs.Choice.{pick}
-use Rattle.ground.specs.Paper.{Paper, accepted, refused, refusedWith}
-use Rattle.code.specs.Meaning.{Shape, magnitude, signed, sign, value, Parsed, found, parseAt, bits, Taken, answerOf, unpackMeans, dropTaken}
-use Rattle.code.specs.Shapes.{Drop, drop-takes, Valid}
+use Rattle.ground.specs.Paper.{Paper, accepted, refused}
+use Rattle.code.specs.Meaning.{Shape, magnitude, signed, sign, value, found, parseAt, bits, Taken, answerOf, unpackMeans, counted}
+use Rattle.code.specs.Shapes.{Drop, drop-of, drop-takes, Valid}
 use Rattle.code.specs.Magnitudes.{magnitude-positive}
+use Rattle.code.specs.Theorems.{read-at, reads-shape}
 use Rattle.cadence.specs.Meaning.{lengthOf, secondsMeans}
-use Rattle.rate.specs.declared.record.Reading.{Reading}
 use Rattle.rate.specs.declared.record.Reading.the-variants.{Exact, Between}
-use Rattle.rate.specs.declared.record.Rate.{Rate}
-use Rattle.rate.specs.Meaning.{Band, band, exact, asFloat, readingOf, rateOf, ReadingValues, RateValues, onward, codeRead, negative, numberReads, readingMeans, rateValues, rateMeans}
+use Rattle.rate.specs.Meaning.{band, exact, asFloat, readingOf, rateOf, ReadingValues, onward, codeRead, negative, numberReads, readingMeans, rateValues, rateMeans}
+
+-- an accepted code: a drop that is taken, and a valid code, whose value the number is
+pub record WasRead (bytes : List ℕ) (at d : ℕ) (t : Taken) : Type 0 where
+  pub taken : Drop d
+  pub valid : Valid d (codeRead (parseAt bytes at d))
+  pub value-is : t .value ≡ value d (codeRead (parseAt bytes at d))
+
+-- what is accepted was read
+pub was-accepted : (bytes : List ℕ) (at d : ℕ) (t : Taken) → unpackMeans bytes at d ≡ accepted t → WasRead bytes at d t
+was-accepted bytes at d t e =
+    let r = read-at bytes at d e in
+    let room : at + length (bits d (r .shape)) ≤ length (counted bytes) = omega (arith, r .after, r .inside) in
+    let same : codeRead (parseAt bytes at d) ≡ r .shape = ap codeRead (reads-shape bytes at d (r .shape) (r .valid) room (r .stands)) in
+    record {
+      taken = drop-of d (r .taken);
+      valid = subst (Valid d) (sym same) (r .valid);
+      value-is = r .number ∙ ap (value d) (sym same);
+    }
 
 -- a code with no error is read as its magnitude
 pub reads-one : (d : ℕ) (shape : Shape) → exact d shape ≡ true → readingOf d shape ≡ Exact (asFloat (magnitude d shape))

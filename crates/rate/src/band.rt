@@ -2,7 +2,7 @@
 use crate::record::Rate;
 use crate::record::Reading;
 ghost use mathlib.Core.Path.{_≡_};
-ghost use Prim.Native.Nat.{_-_, _^_, _≤_, _<_};
+ghost use Prim.Native.Nat.{_-_, _^_, _≤_, _<_, min};
 ghost use Rattle.code.specs.Meaning.{leading as leadingPlace, shapeOf, leftOut, largest};
 ghost use Rattle.code.specs.Shapes.{Drop};
 ghost use Rattle.rate.specs.Meaning.{error, readingOf, rateOf};
@@ -46,7 +46,14 @@ pub fn divided(reading: Reading, length: u16) -> Rate
 fn less(m: u32, error: u32) -> u32
     ensures { λ r. ⌜ (r ≡ m - error) × (r ≤ m) ⌝ }
 {
-    if m < error { 0 } else { m - error }
+    m - lesser(m, error)
+}
+
+// The lesser of two numbers.
+fn lesser(a: u32, b: u32) -> u32
+    ensures { λ r. ⌜ r ≡ min a b ⌝ }
+{
+    if a < b { a } else { b }
 }
 
 // The error of the code that a decoded magnitude has.
