@@ -92,9 +92,9 @@ zeros-place m a b =
     (e ∙ sym (leading-is 31 j m (omega arith) (o .2) (o .3)), omega arith, omega arith)
 
 -- a power of two as a shift gives it
-pub shifted : (k : ℕ) → k < 15 → (1 * 2 ^ k % 2 ^ 32 ≡ 2 ^ k) × (1 * 2 ^ k % 2 ^ 32 < 2 ^ 15)
+pub shifted : (k : ℕ) → k < 16 → (1 * 2 ^ k % 2 ^ 32 ≡ 2 ^ k) × (1 * 2 ^ k % 2 ^ 32 < 2 ^ 16)
 shifted k h =
-    let top : 2 ^ k ≤ 2 ^ 14 = pow-mono {i = k} {j = 14} (omega arith) in
+    let top : 2 ^ k ≤ 2 ^ 15 = pow-mono {i = k} {j = 15} (omega arith) in
     let e : 1 * 2 ^ k % 2 ^ 32 ≡ 2 ^ k = mod-eq-of-lt (omega arith) ∙ omega arith in
     (e, omega arith)
 

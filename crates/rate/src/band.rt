@@ -59,7 +59,7 @@ fn lesser(a: u32, b: u32) -> u32
 // The error of the code that a decoded magnitude has.
 fn error_of(m: u32, drop: u32) -> u32
     requires { ⌜ Drop drop × (m ≤ largest) ⌝ }
-    ensures { λ r. ⌜ (r ≡ error drop (shapeOf drop 0 m)) × (r < 2 ^ 15) ⌝ }
+    ensures { λ r. ⌜ (r ≡ error drop (shapeOf drop 0 m)) × (r < 2 ^ 16) ⌝ }
 {
     if m < 16 {
         return small_error(m, drop);
@@ -70,7 +70,7 @@ fn error_of(m: u32, drop: u32) -> u32
 // The error of a magnitude under 16.
 fn small_error(m: u32, drop: u32) -> u32
     requires { ⌜ Drop drop × (m < 16) ⌝ }
-    ensures { λ r. ⌜ (r ≡ error drop (shapeOf drop 0 m)) × (r < 2 ^ 15) ⌝ }
+    ensures { λ r. ⌜ (r ≡ error drop (shapeOf drop 0 m)) × (r < 2 ^ 16) ⌝ }
 {
     if drop == 0 {
         return 0;
@@ -99,8 +99,8 @@ fn leading(m: u32) -> u32
 
 // A power of two.
 fn power(k: u32) -> u32
-    requires { ⌜ k < 15 ⌝ }
-    ensures { λ r. ⌜ (r ≡ 2 ^ k) × (r < 2 ^ 15) ⌝ }
+    requires { ⌜ k < 16 ⌝ }
+    ensures { λ r. ⌜ (r ≡ 2 ^ k) × (r < 2 ^ 16) ⌝ }
 {
     1 << k
 }
