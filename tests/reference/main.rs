@@ -6,7 +6,12 @@
 //!   reference checksum       reads bytes, and prints their checksum
 
 mod blocks;
+mod cadence;
 mod checksum;
+mod code;
+mod format;
+mod message;
+mod packet;
 mod random;
 
 use std::io::{Read, Write};
@@ -16,6 +21,20 @@ fn answer(block: &[u8]) -> String {
     let Some((&call, given)) = block.split_first() else { return String::new() };
     match call {
         b'c' => format!("{:04x}", checksum::of(given)),
+        b'f' => packet::find_line(given),
+        b'h' => packet::header_line(given),
+        b'w' => packet::write_line(given),
+        b'r' => message::read_line(given),
+        b'm' => message::write_line(given),
+        b'p' => code::pack_line(given),
+        b'u' => code::unpack_line(given),
+        b'P' => code::packs_line(given),
+        b'U' => code::unpacks_line(given),
+        b'R' => code::rates_line(given),
+        b'd' => code::reading_line(given),
+        b'q' => code::rate_line(given),
+        b'x' => format::line(given),
+        b't' => cadence::line(given),
         _ => String::new(),
     }
 }
@@ -25,6 +44,12 @@ fn feed() -> Vec<Vec<u8>> {
     let mut random = random::Random::new(1);
     let mut all = Vec::new();
     checksum::blocks(&mut random, &mut all);
+    packet::blocks(&mut random, &mut all);
+    message::blocks(&mut random, &mut all);
+    code::blocks(&mut random, &mut all);
+    format::blocks(&mut random, &mut all);
+    cadence::blocks(&mut all);
+    code::reading_blocks(&mut random, &mut all);
     all
 }
 

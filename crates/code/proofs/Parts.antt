@@ -2,23 +2,22 @@
 -- Assumes nothing.
 use mathlib.Core.Path.{_≡_, refl, sym, ap, ap₂, _∙_, subst}
 use mathlib.Core.Bool.{Bool, true, false}
-use mathlib.Core.List.{List, [], _∷_, _++_}
-use Prim.Native.Nat.{ℕ, zero, suc, _+_, _*_, _-_, _/_, _%_, _^_, _<_, _≤_}
-use native.Mathlib.Nat.{mod-eq-of-lt}
+use mathlib.Core.List.{List, _∷_}
+use Prim.Native.Nat.{ℕ, zero, suc, _+_, _*_, _-_, _%_, _^_, _<_, _≤_}
 use native.Mathlib.Numerals.{add-one}
 use native.Mathlib.Omega.{arith}
 use lib.ListN.{length, length-append, length-drop, take, drop, getD, drop-of-length-le}
 use lib.Seq.{drop-cons}
-use lib.Pow.{pow-pos, pow-mono}
-use lib.Dec.{ltb, eqb}
-use borrow.Author.Tests.{lt-ltb, le-ltb, eq-eqb, ne-eqb}
+use lib.Dec.{ltb}
+use borrow.Author.Tests.{lt-ltb, le-ltb, ne-eqb}
 use Rattle.ground.specs.Choice.{pick}
 use Rattle.ground.specs.Paper.{Paper, accepted, refused}
-use Rattle.code.specs.Meaning.{Shape, small, mid, big, Parsed, found, ranOut, redundantZero, runTooLong, Taken, counted, fromBits, filled, signed, value, magnitude, field, bigField, parityThen, unlessZero, afterRun, afterSign, parse, parseAt, bits, answerOf, unpackMeans, dropTaken, largest, longestRun}
-use Rattle.code.specs.Shapes.{Drop, none, three, Valid, Exact, parse-exact, bits-some}
+use Rattle.code.specs.Meaning.{Shape, small, mid, big, Parsed, found, ranOut, redundantZero, runTooLong, Taken, counted, fromBits, filled, signed, value, field, bigField, parityThen, unlessZero, afterRun, afterSign, parse, parseAt, bits, answerOf, unpackMeans, dropTaken, largest, longestRun}
+use Rattle.code.specs.Shapes.{Drop, none, three, Exact, parse-exact, bits-some}
 use Rattle.code.specs.BitLists.{allBits-drop}
 use Rattle.code.specs.Positions.{allBits-counted}
 use Rattle.code.specs.Magnitudes.{magnitude-fits, drop-small}
+use Rattle.code.proofs.Reading.{shift-is}
 use Rattle.code.specs.Steps.{restAnswer, normalAnswer, zeroAnswer, NormalPlace, BigPlace}
 
 -- a field that bits ran out of
@@ -62,17 +61,11 @@ rest-is d end w s lead left shape l same = go (ltb (length l) w)
 pub mid-is : (d end s : ℕ) (l : List ℕ) → normalAnswer end s 16 (3 - d) (1 + d) l ≡ restAnswer d end (afterRun d s 1 l)
 mid-is d end s l = rest-is d end (3 - d) s 16 (1 + d) (mid s) l (λ x. refl)
 
--- a power of two as a shift gives it
-pub shift-is : (k : ℕ) → k < 32 → 1 * 2 ^ k % 2 ^ 32 ≡ 2 ^ k
-shift-is k h =
-    let q : 1 * 2 ^ k < 2 ^ 32 = omega (arith, pow-mono {i = k} {j = 31} (omega arith)) in
-    mod-eq-of-lt q ∙ omega arith
-
 -- a big shape answers as its field
 pub big-is : (d end s ones p : ℕ) (l : List ℕ) → ones ≤ longestRun → p < 2
     → normalAnswer end s (1 * 2 ^ (2 * ones + 1 + p) % 2 ^ 32) (ones + 1 - d) (ones + p + d) l ≡ restAnswer d end (bigField d s ones p l)
 big-is d end s ones p l h hp =
-    rw (shift-is (2 * ones + 1 + p) (omega arith))
+    rw (shift-is (2 * ones + 1 + p) 32 (omega arith))
     (rest-is d end (ones + 1 - d) s (2 ^ (2 * ones + 1 + p)) (ones + p + d) (big s ones p) l (λ x. refl))
 
 -- where a mid field is read
@@ -97,7 +90,7 @@ big-place bytes at end d s ones p b =
       narrow = omega arith;
       few = omega (arith, drop-small (b .taken));
       fits = λ x hx.
-          subst (λ (n : ℕ). n + filled (ones + p + d) x ≤ largest) (sym (shift-is (2 * ones + 1 + p) (omega arith)))
+          subst (λ (n : ℕ). n + filled (ones + p + d) x ≤ largest) (sym (shift-is (2 * ones + 1 + p) 32 (omega arith)))
           (magnitude-fits d (big s ones p x) (b .taken) (b .sign, b .two, b .run, b .parity, hx));
     }
 
@@ -181,6 +174,7 @@ module _ (l : List ℕ) (here end d s ones b : ℕ) (end-is : end ≡ length l) 
       go zero e = absurd (h e)
       go (suc m) e = (m, e)
 
+  -- a one goes on with the run, or is one too many
   run-on : (b ≡ 0 → ⊥) → afterSign d s ones (drop here l) ≡ pick (ltb ones longestRun) (afterSign d s (suc ones) (drop (here + 1) l)) runTooLong
   unfolding afterSign
   run-on h =

@@ -1,20 +1,19 @@
 -- Laws that the proofs of reading cite: numbers as the code computes them, and answers as parts of a code give them.
 -- Assumes nothing.
 use mathlib.Core.Path.{_≡_, refl, sym, ap, ap₂, _∙_, subst}
-use mathlib.Core.Bool.{Bool, true, false}
-use mathlib.Core.List.{List, [], _∷_, _++_}
-use Prim.Native.Nat.{ℕ, zero, suc, _+_, _*_, _-_, _/_, _%_, _^_, _<_, _≤_, min}
-use native.Mathlib.Nat.{mod-eq-of-lt, le-trans}
+use mathlib.Core.List.{List}
+use Prim.Native.Nat.{ℕ, zero, suc, _+_, _*_, _-_, _%_, _^_, _<_, _≤_}
+use native.Mathlib.Nat.{mod-eq-of-lt, one-mul}
 use native.Mathlib.Numerals.{add-one}
 use native.Mathlib.Omega.{arith}
 use lib.IntN.{ℤ, pos, negsuc, negℤ, _-ℤ_, +ℤ-idl}
 use mir.Syntax.{w32}
 use mir.Val.{toZ, ofZ, SFits}
 use mir.ValLaws.{toZ-pos, toZ-ofZ}
-use Rattle.ground.specs.Paper.{accepted, refused}
-use lib.ListN.{length, length-take, length-drop, take, drop, getD}
+use Rattle.ground.specs.Paper.{accepted}
+use lib.ListN.{length, length-drop, take, drop, getD}
 use lib.Seq.{getD-drop, take-suc, length-take-le}
-use lib.Pow.{pow-pos, pow-mono}
+use lib.Pow.{pow-pos, pow-mono, pow-lt}
 use Rattle.code.specs.Meaning.{counted, fromBits, filled, signed, largest}
 use Rattle.code.specs.Steps.{zeroAnswer}
 use Rattle.code.specs.BitLists.{allBits, allBits-take, allBits-drop, fromBits-lt}
@@ -39,19 +38,20 @@ field-width l at i ok h =
 pub field-small : (l : List ℕ) (at i : ℕ) → allBits l → at + i ≤ length l → i ≤ 16 → fromBits (take i (drop at l)) < 65536
 field-small l at i ok h few = omega (arith, field-width l at i ok h, pow-mono {i = i} {j = 16} few)
 
+-- a power of two as a shift gives it, at any width that holds it
+pub shift-is : (k w : ℕ) → k < w → 1 * 2 ^ k % 2 ^ w ≡ 2 ^ k
+shift-is k w h = ap (λ (n : ℕ). n % 2 ^ w) (one-mul (2 ^ k)) ∙ mod-eq-of-lt (pow-lt h)
+
+-- one can be taken from it
+pub shift-positive : (k w : ℕ) → k < w → 1 ≤ 1 * 2 ^ k % 2 ^ w
+shift-positive k w h = subst (λ (n : ℕ). 1 ≤ n) (sym (shift-is k w h)) (pow-pos k)
+
 -- a field and what is filled in, as shifts give it
-pub fill-shifts : (left x : ℕ) → 0 < left → left < 32 → filled left x < 2 ^ 32
+pub fill-shifts : (left x : ℕ) → 0 < left → left < 32 → filled left x < 2 ^ 31
     → x * 2 ^ left % 2 ^ 32 + (1 * 2 ^ (left - 1) % 2 ^ 32 - 1) ≡ filled left x
 fill-shifts left x a b h =
     let p : x * 2 ^ left < 2 ^ 32 = omega arith in
-    let q : 1 * 2 ^ (left - 1) < 2 ^ 32 = omega (arith, pow-mono {i = left - 1} {j = 31} (omega arith)) in
-    ap₂ (λ (m n : ℕ). m + (n - 1)) (mod-eq-of-lt p) (mod-eq-of-lt q) ∙ omega arith
-
--- a power of two as a shift gives it, for one less
-pub shift-positive : (k : ℕ) → k < 32 → 1 ≤ 1 * 2 ^ k % 2 ^ 32
-shift-positive k h =
-    let q : 1 * 2 ^ k < 2 ^ 32 = omega (arith, pow-mono {i = k} {j = 31} (omega arith)) in
-    subst (λ (n : ℕ). 1 ≤ n) (sym (mod-eq-of-lt q)) (omega (arith, pow-pos k))
+    ap₂ (λ (m n : ℕ). m + (n - 1)) (mod-eq-of-lt p) (shift-is (left - 1) 32 (omega arith))
 
 -- a magnitude inside the rule is read back from its bits
 pub plus : (s m : ℕ) → s ≡ 0 → m ≤ largest → toZ w32 m ≡ signed s m
@@ -62,6 +62,7 @@ zero-less : (m : ℕ) → pos 0 -ℤ pos m ≡ negℤ (pos m)
 zero-less zero = refl
 zero-less (suc m) = +ℤ-idl (negsuc m)
 
+-- nothing less a magnitude as the code computes it
 minus-is : (m : ℕ) → m ≤ largest → pos 0 -ℤ toZ w32 m ≡ negℤ (pos m)
 minus-is m h = ap (λ (z : ℤ). pos 0 -ℤ z) (toZ-pos w32 m (omega arith)) ∙ zero-less m
 
@@ -70,6 +71,7 @@ negated-fits : (m : ℕ) → m ≤ largest → SFits w32 (negℤ (pos m))
 negated-fits zero h = record { sfits = omega arith }
 negated-fits (suc m) h = record { sfits = omega arith }
 
+-- and it fits an i32
 pub minus-fits : (m : ℕ) → m ≤ largest → SFits w32 (pos 0 -ℤ toZ w32 m)
 minus-fits m h = subst (SFits w32) (sym (minus-is m h)) (negated-fits m h)
 

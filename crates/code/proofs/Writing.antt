@@ -2,33 +2,34 @@
 -- Assumes nothing.
 use mathlib.Core.Path.{_≡_, refl, sym, ap, ap₂, _∙_, subst}
 use mathlib.Core.Bool.{Bool, true, false, _&&_}
-use mathlib.Core.List.{List, [], _∷_, _++_, append-assoc, append-nil}
+use mathlib.Core.List.{List, [], _∷_, _++_, append-assoc}
 use Prim.Native.Nat.{ℕ, zero, suc, _+_, _*_, _-_, _/_, _%_, _^_, _<_, _≤_}
-use native.Mathlib.Nat.{mod-eq-of-lt, mod-lt, suc-add, add-suc, zero-add, pow-suc, mul-assoc, div-eq-of-lt}
+use native.Mathlib.Nat.{mod-eq-of-lt, mod-lt, suc-add, zero-add, pow-suc}
 use native.Mathlib.Numerals.{add-one}
 use native.Mathlib.Omega.{arith}
-use lib.IntN.{ℤ, pos, negsuc, negℤ, natAbs, _-ℤ_}
+use lib.IntN.{ℤ, pos, negsuc, natAbs, _-ℤ_, +ℤ-idl}
 use lib.Signed.{ltZ, nonNeg}
 use lib.Count.{leadingZeros, leading-top}
-use lib.ListN.{length, length-append, length-drop, take, drop, getD, set, replicate}
-use lib.Seq.{set-at, set-append-left, paste, paste-suc, paste-zero, getD-drop}
-use lib.Pow.{pow-pos, pow-mono, pow-add, split, ones-lt, shl-lt}
-use lib.Arith.{digits-lt}
-use lib.Dec.{T, ltb, leb, eqb}
-use borrow.Author.Tests.{lt-ltb, le-ltb, le-leb, lt-leb, ltb-true, ltb-false, leb-true}
+use lib.ListN.{length, take, drop, getD, set, replicate}
+use lib.Seq.{set-at, set-append-left, paste, paste-suc, take-length}
+use lib.Pow.{pow-pos, pow-mono, split, ones-lt}
+use lib.Dec.{T, ltb, leb}
+use borrow.Author.Tests.{lt-ltb, le-ltb, le-leb, lt-leb, ltb-true, ltb-false}
 use mir.Syntax.{w32, w64}
 use mir.Val.{toZ, ofZ, SFits, Fits}
 use mir.ValLaws.{toZ-ofZ}
 use Rattle.ground.specs.Choice.{pick}
-use Rattle.ground.specs.Paper.{Paper, accepted, refused}
+use Rattle.ground.specs.Paper.{accepted, refused}
 use Rattle.ground.specs.Bits.{toBits, bitsOf}
-use Rattle.code.specs.Meaning.{Shape, nought, small, mid, big, bits, coded, shapeOf, bigOf, leading, leadingIn, leastCoded, signOf, counted, largest, longestRun, toByteEnd, padded, bytesFrom, bytesWith, codeOf, codeFits, inRule, dropTaken, packMeans, packLeaves}
+use Rattle.ground.specs.Putting.{put}
+use Rattle.code.specs.Meaning.{nought, small, mid, bits, coded, shapeOf, bigOf, leading, leastCoded, signOf, counted, largest, longestRun, toByteEnd, padded, bytesFrom, bytesWith, codeOf, codeFits, inRule, dropTaken}
 use Rattle.code.specs.BitLists.{length-toBits, length-bitsOf, toBits-join, toBits-ones, toBits-zeros}
 use Rattle.code.specs.Positions.{length-counted, getD-toBits, allBytes, bytes-back}
-use Rattle.code.specs.Magnitudes.{leading-is, leading-bounds, exponent-lt, high-lt, field-lt, drop-small}
-use Rattle.code.specs.Shapes.{Drop, none, three}
+use Rattle.code.specs.Magnitudes.{leading-is, exponent-lt, high-lt, field-lt, drop-small}
+use Rattle.code.specs.Shapes.{Drop}
+use Rattle.code.proofs.Reading.{shift-is}
 use Rattle.code.specs.Steps.{Holds, byteBits, PlacePromise, placeMeans, placeLeaves}
-use Rattle.code.specs.Promise.{PackPromise}
+use Rattle.code.specs.Promise.{PackPromise, SignPromise}
 use Rattle.code.specs.declared.Packed.{Packed}
 use Rattle.code.specs.declared.Packed.the-variants.{Next, OutsideRule as PackedOutsideRule, TooShort}
 
@@ -43,9 +44,11 @@ widened (negsuc n) f = record { sfits = omega (arith, f .sfits) }
 abbrev pub asWide : ℤ → ℤ
 asWide v = toZ w64 (ofZ w64 (toZ w32 (ofZ w32 v)))
 
+-- is the number itself
 as-wide : (v : ℤ) → SFits w32 v → asWide v ≡ v
 as-wide v f = ap (λ (z : ℤ). toZ w64 (ofZ w64 z)) (toZ-ofZ w32 v f) ∙ toZ-ofZ w64 v (widened v f)
 
+-- widening loses nothing
 pub cast-fits : (v : ℤ) → SFits w32 v → SFits w64 (toZ w32 (ofZ w32 v))
 cast-fits v f = subst (SFits w64) (sym (toZ-ofZ w32 v f)) (widened v f)
 
@@ -63,7 +66,14 @@ natural (negsuc n) t = absurd (Rattle.code.specs.Shapes.false-true (sym 
 less-negative : (n : ℕ) → pos 0 -ℤ negsuc n ≡ pos (suc n)
 less-negative n = ap pos (zero-add (suc n))
 
+-- 64 bits hold the negation of every number that fits 32
+negation-fits : (v : ℤ) → SFits w32 v → SFits w64 (pos 0 -ℤ v)
+negation-fits (pos zero) f = record { sfits = omega arith }
+negation-fits (pos (suc n)) f = subst (SFits w64) (sym (+ℤ-idl (negsuc n))) (record { sfits = omega (arith, f .sfits) })
+negation-fits (negsuc n) f = subst (SFits w64) (sym (less-negative n)) (record { sfits = omega (arith, f .sfits) })
+
 module _ (v : ℤ) (f : SFits w32 v) where
+  -- a negative number, and what is left of nothing less it
   negated : ltZ (asWide v) (pos 0) ≡ true → (n : ℕ) × (v ≡ negsuc n) × (pos 0 -ℤ asWide v ≡ pos (suc n)) × (n < 2 ^ 31)
   negated t =
       let o = negative v (subst (λ (z : ℤ). ltZ z (pos 0) ≡ true) (as-wide v f) t) in (
@@ -73,13 +83,12 @@ module _ (v : ℤ) (f : SFits w32 v) where
         subst (SFits w32) (o .1) f .sfits,
       )
 
-  pub negated-fits : ltZ (asWide v) (pos 0) ≡ true → SFits w64 (pos 0 -ℤ asWide v)
-  negated-fits t =
-      let o = negated t in
-      subst (SFits w64) (sym (o .2)) (record { sfits = omega (arith, o .3) })
+  pub negated-fits : SFits w64 (pos 0 -ℤ asWide v)
+  negated-fits = subst (λ (z : ℤ). SFits w64 (pos 0 -ℤ z)) (sym (as-wide v f)) (negation-fits v f)
 
+  -- the negation as 64 bits hold it
   negated-back : (t : ltZ (asWide v) (pos 0) ≡ true) → toZ w64 (ofZ w64 (pos 0 -ℤ asWide v)) ≡ pos (suc (negated t .0))
-  negated-back t = toZ-ofZ w64 (pos 0 -ℤ asWide v) (negated-fits t) ∙ negated t .2
+  negated-back t = toZ-ofZ w64 (pos 0 -ℤ asWide v) negated-fits ∙ negated t .2
 
   pub negated-cast : ltZ (asWide v) (pos 0) ≡ true
       → T (nonNeg (toZ w64 (ofZ w64 (pos 0 -ℤ asWide v)))) × Fits w32 (natAbs (toZ w64 (ofZ w64 (pos 0 -ℤ asWide v))))
@@ -99,15 +108,15 @@ module _ (v : ℤ) (f : SFits w32 v) where
   pub natural-is : natAbs (asWide v) ≡ natAbs v
   natural-is = ap natAbs (as-wide v f)
 
-  pub sign-minus : ltZ (toZ w32 (ofZ w32 v)) (pos 0) ≡ true → (1 ≡ signOf v) × (1 < 2)
+  pub sign-minus : ltZ (toZ w32 (ofZ w32 v)) (pos 0) ≡ true → SignPromise v 1
   sign-minus t =
       let o = negative v (subst (λ (z : ℤ). ltZ z (pos 0) ≡ true) (toZ-ofZ w32 v f) t) in
-      (ap signOf (sym (o .1)), omega arith)
+      record { answer = ap signOf (sym (o .1)); bit = omega arith }
 
-  pub sign-plus : ltZ (toZ w32 (ofZ w32 v)) (pos 0) ≡ false → (0 ≡ signOf v) × (0 < 2)
+  pub sign-plus : ltZ (toZ w32 (ofZ w32 v)) (pos 0) ≡ false → SignPromise v 0
   sign-plus t =
       let o = natural v (subst (λ (z : ℤ). ltZ z (pos 0) ≡ false) (toZ-ofZ w32 v f) t) in
-      (ap signOf (sym (o .1)), omega arith)
+      record { answer = ap signOf (sym (o .1)); bit = omega arith }
 
 -- ---- a code's bits as a number
 
@@ -122,21 +131,14 @@ leading-zeros m a b =
     let top : j < 2 * longestRun + 3 = exponent-lt j (2 * longestRun + 3) (o .2) (omega arith) in
     (e ∙ sym (leading-is 31 j m (omega arith) (o .2) (o .3)), omega arith, omega arith)
 
+-- a big magnitude has a leading one
 pub leading-zeros-few : (m : ℕ) → 32 ≤ m → m ≤ largest → leadingZeros 32 m ≤ 31
 leading-zeros-few m a b = let o = leading-top 32 m (omega arith) (omega arith) in omega (arith, o .1)
 
--- a power of two as a shift of 64 bits gives it
-wide-power : (k : ℕ) → k ≤ 40 → 1 * 2 ^ k % 2 ^ 64 ≡ 2 ^ k
-wide-power k h =
-    let q : 1 * 2 ^ k < 2 ^ 64 = omega (arith, pow-mono {i = k} {j = 40} h) in
-    mod-eq-of-lt q ∙ omega arith
-
-pub ones-positive : (k : ℕ) → k ≤ 30 → 1 ≤ 1 * 2 ^ k % 2 ^ 64
-ones-positive k h = subst (λ (n : ℕ). 1 ≤ n) (sym (wide-power k (omega arith))) (pow-pos k)
-
+-- a power of two less one, as the code computes it
 pub ones-are : (k : ℕ) → k ≤ 30 → (1 * 2 ^ k % 2 ^ 64 - 1 ≡ 2 ^ k - 1) × (1 * 2 ^ k % 2 ^ 64 - 1 < 2 ^ k)
 ones-are k h =
-    let e = ap (λ (n : ℕ). n - 1) (wide-power k (omega arith)) in
+    let e = ap (λ (n : ℕ). n - 1) (shift-is k 64 (omega arith)) in
     (e, subst (λ (n : ℕ). n < 2 ^ k) (sym e) (ones-lt k))
 
 -- joined bits lie in their widths together
@@ -149,6 +151,7 @@ join-is number count more width a b h =
     let f = ap (λ (n : ℕ). n + more) e in
     (f, subst (λ (n : ℕ). n < 2 ^ (count + width)) (sym f) whole)
 
+-- and in 64 bits
 pub join-fits : (number count more width : ℕ) → number < 2 ^ count → more < 2 ^ width → count + width ≤ 40
     → Fits w64 (number * 2 ^ width % 2 ^ 64 + more)
 join-fits number count more width a b h =
@@ -202,18 +205,22 @@ held-as {number} {count} h e = subst (Holds number count) e h
 
 -- ---- the shape of a magnitude, where the tests say which
 
+-- a magnitude under the least coded one
 pub shape-nought : (d s m : ℕ) → m < leastCoded d → shapeOf d s m ≡ nought
 unfolding shapeOf
 shape-nought d s m h = rw (lt-ltb m (leastCoded d) h)
 
+-- a magnitude under 16
 pub shape-small : (d s m : ℕ) → leastCoded d ≤ m → m < 16 → shapeOf d s m ≡ small s (m / 2 ^ d)
 unfolding shapeOf
 shape-small d s m a h = rw (le-ltb m (leastCoded d) a, lt-ltb m 16 h)
 
+-- a magnitude under 32
 pub shape-mid : (d s m : ℕ) → leastCoded d ≤ m → 16 ≤ m → m < 32 → shapeOf d s m ≡ mid s (m % 16 / 2 ^ (1 + d))
 unfolding shapeOf
 shape-mid d s m a b h = rw (le-ltb m (leastCoded d) a, le-ltb m 16 b, lt-ltb m 32 h)
 
+-- a magnitude from 32 on
 pub shape-big : (d s m : ℕ) → leastCoded d ≤ m → 16 ≤ m → 32 ≤ m → shapeOf d s m ≡ bigOf d s (leading m) m
 unfolding shapeOf
 shape-big d s m a b h = rw (le-ltb m (leastCoded d) a, le-ltb m 16 b, le-ltb m 32 h)
@@ -233,7 +240,7 @@ byte-parts h c l place a b e =
     ∙ ap (λ (n : ℕ). toBits place h ++ (n ∷ [])) (ap (λ (n : ℕ). n % 2) (native.Mathlib.Nat.div-one c) ∙ mod-eq-of-lt b))
     ∙ append-assoc (toBits place h) (c ∷ []) (toBits (7 - place) l)
 
-module _ (byte place bit unit : ℕ) (small-byte : byte < 256) (in-byte : place < 8) (is-bit : bit < 2) (unit-is : unit ≡ 2 ^ (7 - place)) where
+module _ (byte place bit unit top : ℕ) (small-byte : byte < 256) (in-byte : place < 8) (is-bit : bit < 2) (unit-is : unit ≡ 2 ^ (7 - place)) (top-is : top ≡ byte / unit / 2 * 2 + bit) where
   -- the bits down to the place, with the bit put
   top-lt : byte / 2 ^ (7 - place) / 2 * 2 + bit < 2 ^ (place + 1)
   top-lt =
@@ -241,21 +248,20 @@ module _ (byte place bit unit : ℕ) (small-byte : byte < 256) (in-byte : place 
       let e : 2 ^ (place + 1) ≡ 2 ^ place * 2 = ap (λ (n : ℕ). 2 ^ n) (add-one place) ∙ pow-suc 2 place in
       omega arith
 
+  -- the bits after the place
   low-lt : byte % 2 ^ (7 - place) < 2 ^ (7 - place)
   low-lt = mod-lt byte (pow-pos (7 - place))
 
+  -- the byte with the bit put is a byte
   whole-lt : (byte / 2 ^ (7 - place) / 2 * 2 + bit) * 2 ^ (7 - place) + byte % 2 ^ (7 - place) < 256
   whole-lt = field-lt (place + 1) (7 - place) 8 top-lt low-lt (omega arith)
 
-  pub put-lt : (byte / unit / 2 * 2 + bit) * unit + byte % unit < 256
-  put-lt = rw unit-is whole-lt
+  pub put-lt : top * unit + byte % unit < 256
+  put-lt = rw (top-is, unit-is) whole-lt
 
-  pub top-small : byte / unit / 2 * 2 + bit < 256
-  top-small = rw unit-is (omega (arith, top-lt, pow-mono {i = place + 1} {j = 8} (omega arith)))
-
-  pub put-bits : byteBits ((byte / unit / 2 * 2 + bit) * unit + byte % unit) ≡ set (byteBits byte) place bit
+  pub put-bits : byteBits (top * unit + byte % unit) ≡ set (byteBits byte) place bit
   put-bits =
-      rw unit-is
+      rw (top-is, unit-is)
       (let q : ℕ = byte / 2 ^ (7 - place) in
       let h : ℕ = q / 2 in
       let whole : byte ≡ (h * 2 + q % 2) * 2 ^ (7 - place) + byte % 2 ^ (7 - place)
@@ -314,8 +320,14 @@ put-turn old now last at count number i v fits h inv q e =
 
 -- all bits have been put
 pub put-done : (old now : List ℕ) (at count number i : ℕ) → i ≤ count → count ≤ i → bitsOf now ≡ paste (bitsOf old) at (toBits count number) i
-    → bitsOf now ≡ paste (bitsOf old) at (toBits count number) count
-put-done old now at count number i a b e = let f : i ≡ count = omega arith in e ∙ ap (λ (n : ℕ). paste (bitsOf old) at (toBits count number) n) f
+    → bitsOf now ≡ put (bitsOf old) at (toBits count number)
+put-done old now at count number i a b e =
+    let l : List ℕ = toBits count number in
+    let f : i ≡ length l = omega (arith, length-toBits count number) in
+    e
+    ∙ ap (λ (n : ℕ). paste (bitsOf old) at l n) f
+    ∙ append-assoc (take at (bitsOf old)) (take (length l) l) (drop (at + length l) (bitsOf old))
+    ∙ ap (λ (k : List ℕ). take at (bitsOf old) ++ (k ++ drop (at + length l) (bitsOf old))) (take-length l)
 
 -- ---- the code of a big magnitude
 
@@ -367,6 +379,7 @@ big-code-holds d s m least number count e a b h held = held-as held (ap (bits d)
 pub small-field-lt : (d m : ℕ) → Drop d → m < 16 → m / 2 ^ d < 2 ^ (4 - d)
 small-field-lt d m dr h = high-lt (4 - d) d 4 h (omega (arith, drop-small dr))
 
+-- and the field of a mid magnitude
 pub mid-field-lt : (d m : ℕ) → Drop d → m % 16 / 2 ^ (1 + d) < 2 ^ (3 - d)
 mid-field-lt d m dr = high-lt (3 - d) (1 + d) 4 (mod-lt m (pow-pos 4)) (omega (arith, drop-small dr))
 
@@ -383,11 +396,6 @@ place-short buffer at number count end e h =
       memory = sym (ap (λ (b : Bool). pick b (bytesWith buffer at (toBits count number)) buffer) t);
     }
 
--- the room that a code and the rest of its last byte take
-pub pad-fits : (buffer : List ℕ) (at count pad : ℕ) → at + count ≤ length (counted buffer) → pad ≡ toByteEnd (at + count)
-    → at + (count + pad) ≤ length (counted buffer)
-pad-fits buffer at count pad h e = omega (arith, length-counted buffer)
-
 -- a code's number with room for the rest of its last byte
 padded-is : (at number count pad : ℕ) → pad ≡ toByteEnd (at + count)
     → toBits (count + pad) (number * 2 ^ pad + 0) ≡ padded at (toBits count number)
@@ -399,19 +407,18 @@ padded-is at number count pad e =
 -- they fit
 pub place-there : (buffer last : List ℕ) (at number count end pad joined : ℕ) → end ≡ length (counted buffer) → at + count ≤ end
     → pad ≡ toByteEnd (at + count) → joined ≡ number * 2 ^ pad + 0 → length last ≡ length buffer → allBytes last
-    → bitsOf last ≡ paste (bitsOf buffer) at (toBits (count + pad) joined) (count + pad)
+    → bitsOf last ≡ put (bitsOf buffer) at (toBits (count + pad) joined)
     → PlacePromise buffer at (toBits count number) (Next (at + count)) last
-place-there buffer last at number count end pad joined e h p q same ok put =
+place-there buffer last at number count end pad joined e h p q same ok wrote =
     let l : List ℕ = toBits count number in
     let t : leb (at + length l) (length (counted buffer)) ≡ true = le-leb (at + length l) (length (counted buffer)) (omega (arith, length-toBits count number)) in
     let code : toBits (count + pad) joined ≡ padded at l = ap (toBits (count + pad)) q ∙ padded-is at number count pad p in
-    let long : count + pad ≡ length (padded at l) = sym (length-toBits (count + pad) joined) ∙ ap length code in
     record {
       answer =
           sym (ap (λ (b : Bool). pick b (accepted (at + length l)) (refused 3)) t ∙ ap (λ (n : ℕ). accepted (at + n)) (length-toBits count number));
       memory =
           sym (bytes-back last ok)
-          ∙ ap₂ (λ (n : ℕ) (k : List ℕ). bytesFrom n k) same (put ∙ ap₂ (λ (k : List ℕ) (n : ℕ). paste (bitsOf buffer) at k n) code long)
+          ∙ ap₂ (λ (n : ℕ) (k : List ℕ). bytesFrom n k) same (wrote ∙ ap (put (bitsOf buffer) at) code)
           ∙ sym (ap (λ (b : Bool). pick b (bytesWith buffer at l) buffer) t);
     }
 
@@ -422,17 +429,17 @@ pub pack-is : (buffer last : List ℕ) (at : ℕ) (v : ℤ) (d w s m number coun
     → m ≡ natAbs v → s ≡ signOf v → w ≡ d → (dropTaken d && leb m largest) ≡ true
     → Holds number count (bits w (shapeOf w s m)) → PlacePromise buffer at (toBits count number) r last
     → PackPromise buffer at v d r last
-pack-is buffer last at v d w s m number count r em es ew t held put =
+pack-is buffer last at v d w s m number count r em es ew t held placed =
     let code : toBits count number ≡ codeOf d v
     = held .bits-are ∙ ap (λ (n : ℕ). bits n (shapeOf n s m)) ew ∙ ap₂ (λ (a b : ℕ). bits d (shapeOf d a b)) es em in
     let rule : inRule v d ≡ true = ap (λ (n : ℕ). dropTaken d && leb n largest) (sym em) ∙ t in
     record {
       answer =
-          put .answer
+          placed .answer
           ∙ ap (placeMeans buffer at) code
           ∙ sym (ap (λ (b : Bool). pick b (placeMeans buffer at (codeOf d v)) (refused 8)) rule);
       memory =
-          put .memory
+          placed .memory
           ∙ ap (placeLeaves buffer at) code
           ∙ sym (ap (λ (b : Bool). pick (b && codeFits buffer at v d) (bytesWith buffer at (codeOf d v)) buffer) rule);
     }
@@ -446,12 +453,3 @@ pack-refuses buffer at v d m em t =
       answer = sym (ap (λ (b : Bool). pick b (placeMeans buffer at (codeOf d v)) (refused 8)) rule);
       memory = sym (ap (λ (b : Bool). pick (b && codeFits buffer at v d) (bytesWith buffer at (codeOf d v)) buffer) rule);
     }
-
--- both tests that make up the rule
-pub rule-drop : (a b : Bool) → (a && b) ≡ true → a ≡ true
-rule-drop true b t = refl
-rule-drop false b t = t
-
-pub rule-fits : (a : Bool) (m : ℕ) → (a && leb m largest) ≡ true → m ≤ largest
-rule-fits true m t = leb-true m largest t
-rule-fits false m t = absurd (Rattle.code.specs.Shapes.false-true t)

@@ -23,6 +23,7 @@ packedBack (accepted next) = Next next
 packedBack (refused n) = pick (eqb n 8) PackedOutsideRule TooShort
 packedBack (refusedWith n x) = TooShort
 
+-- no two answers of writing read the same on paper
 pub packed-home : (a : Packed) → packedBack (packedPaper a) ≡ a
 packed-home (Next next) = refl
 packed-home PackedOutsideRule = refl
@@ -42,6 +43,7 @@ unpackedBack (accepted t) = Number (t .value) (t .next)
 unpackedBack (refused n) = pick (eqb n 8) OutsideRule (pick (eqb n 9) RanOut (pick (eqb n 10) RedundantZero RunTooLong))
 unpackedBack (refusedWith n x) = OutsideRule
 
+-- no two answers of reading read the same on paper
 pub unpacked-home : (a : Unpacked) → unpackedBack (unpackedPaper a) ≡ a
 unpacked-home (Number value next) = refl
 unpacked-home OutsideRule = refl

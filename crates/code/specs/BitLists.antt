@@ -1,12 +1,12 @@
 -- Laws of bits: a number and its bits, joined bits, bits back to the number.
 -- Assumes nothing.
-use mathlib.Core.Path.{_≡_, refl, sym, ap, ap₂, _∙_, subst}
-use mathlib.Core.List.{List, [], _∷_, _++_, append-assoc}
-use Prim.Native.Nat.{ℕ, zero, suc, _+_, _*_, _-_, _/_, _%_, _^_, _<_, _≤_}
-use native.Mathlib.Nat.{pow-suc, mul-comm, mul-assoc, mul-add-div-right, mul-add-mod-self-right, mod-lt, suc-add, add-suc, zero-add, mul-one, mod-eq-of-lt, mod-one}
+use mathlib.Core.Path.{_≡_, refl, sym, ap, ap₂, _∙_}
+use mathlib.Core.List.{List, [], _∷_, _++_}
+use Prim.Native.Nat.{ℕ, zero, suc, _+_, _*_, _-_, _/_, _%_, _^_, _<_}
+use native.Mathlib.Nat.{pow-suc, mul-comm, mul-assoc, mul-add-div-right, mul-add-mod-self-right, mod-lt, suc-add, zero-add, mod-eq-of-lt, mod-one}
 use native.Mathlib.Omega.{arith}
 use lib.ListN.{length, length-append, take, drop, replicate}
-use lib.Pow.{pow-pos, high, low, shr-shr, mod-pow-add, pow-add, suc-ones, ones-lt, pow-mono}
+use lib.Pow.{pow-pos, high, shr-shr, mod-pow-add, ones-lt}
 use lib.Arith.{digits-lt}
 use Rattle.ground.specs.Bits.{toBits, bitsOf}
 use Rattle.code.specs.Meaning.{fromBits}
@@ -26,24 +26,29 @@ pub allBits-toBits : (w x : ℕ) → allBits (toBits w x)
 allBits-toBits zero x = tt
 allBits-toBits (suc w) x = (mod-lt (x / 2 ^ w) (pow-pos 1), allBits-toBits w x)
 
+-- bits after bits are bits
 pub allBits-append : (l k : List ℕ) → allBits l → allBits k → allBits (l ++ k)
 allBits-append [] k p q = q
 allBits-append (b ∷ l) k p q = (p .0, allBits-append l k (p .1) q)
 
+-- the first of bits are bits
 pub allBits-take : (n : ℕ) (l : List ℕ) → allBits l → allBits (take n l)
 allBits-take zero l p = tt
 allBits-take (suc n) [] p = tt
 allBits-take (suc n) (b ∷ l) p = (p .0, allBits-take n l (p .1))
 
+-- the rest of bits are bits
 pub allBits-drop : (n : ℕ) (l : List ℕ) → allBits l → allBits (drop n l)
 allBits-drop zero l p = p
 allBits-drop (suc n) [] p = tt
 allBits-drop (suc n) (b ∷ l) p = allBits-drop n l (p .1)
 
+-- the bits of bytes are bits
 pub allBits-bitsOf : (l : List ℕ) → allBits (bitsOf l)
 allBits-bitsOf [] = tt
 allBits-bitsOf (b ∷ l) = allBits-append (toBits 8 b) (bitsOf l) (allBits-toBits 8 b) (allBits-bitsOf l)
 
+-- eight bits a byte
 pub length-bitsOf : (l : List ℕ) → length (bitsOf l) ≡ 8 * length l
 length-bitsOf [] = refl
 length-bitsOf (b ∷ l) = omega (arith, length-append (toBits 8 b) (bitsOf l), length-toBits 8 b, length-bitsOf l)
@@ -78,6 +83,7 @@ fromBits-toBits (suc w) x =
     ∙ sym (mod-pow-add x 1 w)
     ∙ ap (λ (k : ℕ). x % 2 ^ k) (omega arith)
 
+-- so many bits mean a number under that power of two
 pub fromBits-lt : (l : List ℕ) → allBits l → fromBits l < 2 ^ length l
 fromBits-lt [] p = pow-pos 0
 fromBits-lt (b ∷ l) p =

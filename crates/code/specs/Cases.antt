@@ -1,9 +1,8 @@
 -- Document 01's starred cases of packed codes, computed from the definitions.
 -- Assumes nothing.
 use mathlib.Core.Path.{_≡_, refl}
-use mathlib.Core.List.{List, [], _∷_, _++_}
-use Prim.Native.Nat.{ℕ}
-use lib.IntN.{ℤ, pos, negsuc}
+use mathlib.Core.List.{[], _∷_}
+use lib.IntN.{pos, negsuc}
 use lib.ListN.{length}
 use Rattle.ground.specs.Paper.{accepted, refused}
 use Rattle.code.specs.Meaning.{codeOf, decoded, unpackMeans, packMeans, packLeaves, shapeOf, leadingIn, parse, afterSign, bytesFrom, counted}

@@ -8,7 +8,7 @@ use lib.IntN.{ℤ, pos, negsuc, natAbs}
 use lib.ListN.{length}
 use lib.Dec.{leb}
 use Rattle.ground.specs.Choice.{pick}
-use Rattle.ground.specs.Paper.{Paper, accepted, refused}
+use Rattle.ground.specs.Paper.{accepted, refused}
 use Rattle.code.specs.Meaning.{codeOf, decoded, packMeans, packLeaves, dropTaken, largest, shapeOf, leadingIn, codeFits, bytesWith}
 
 -- zero and the largest magnitude of each sign, with each drop: bits of the code, and the number that it decodes to
@@ -55,12 +55,14 @@ refuses v over =
           (fails (dropTaken d) (leb (natAbs v) largest) over);
     }
 
--- just over the range, and the smallest i32
+-- just over the range
 pub refuses-over : Refuses (pos 33554432)
 refuses-over = refuses (pos 33554432) refl
 
+-- just under the range
 pub refuses-under : Refuses (negsuc 33554431)
 refuses-under = refuses (negsuc 33554431) refl
 
+-- the smallest i32
 pub refuses-smallest : Refuses (negsuc 2147483647)
 refuses-smallest = refuses (negsuc 2147483647) refl

@@ -1,17 +1,17 @@
 -- Which magnitudes have a given shape, that decoding stays among them, and that the shape of a shape's value is the shape.
 -- Assumes nothing.
 use mathlib.Core.Path.{_≡_, refl, sym, ap, ap₂, _∙_, subst}
-use mathlib.Core.Bool.{Bool, true, false, _&&_}
+use mathlib.Core.Bool.{Bool, true, false}
 use Prim.Native.Nat.{ℕ, zero, suc, _+_, _*_, _-_, _/_, _%_, _^_, _<_, _≤_, max}
-use native.Mathlib.Nat.{suc-add, add-suc, add-zero, zero-add, pow-suc, div-add-mod', div-eq-of-lt-le, mod-lt, mod-eq-of-lt, le-trans, lt-of-le-of-lt, add-sub-cancel-left}
+use native.Mathlib.Nat.{pow-suc, mod-lt, le-trans}
 use native.Mathlib.Omega.{arith}
-use lib.IntN.{ℤ, pos, negsuc, negℤ, natAbs}
-use lib.Pow.{pow-pos, pow-mono, pow-lt, pow-add, high, low, shr-lt, split}
+use lib.IntN.{ℤ, pos, negsuc, natAbs}
+use lib.Pow.{pow-pos, pow-mono, pow-add, high, shr-lt, split}
 use lib.Arith.{digits-lt}
-use lib.Dec.{ltb, leb, eqb}
-use borrow.Author.Tests.{lt-ltb, le-ltb, ltb-true, ltb-false, eq-eqb, ne-eqb, eqb-true, eqb-false}
+use lib.Dec.{ltb, eqb}
+use borrow.Author.Tests.{lt-ltb, le-ltb, ltb-true, ltb-false, ne-eqb}
 use Rattle.ground.specs.Choice.{pick, pick-elim}
-use Rattle.code.specs.Meaning.{Shape, nought, small, mid, big, leadingIn, leading, shapeOf, bigOf, leastCoded, largest, longestRun, filled, magnitude, sign, value, signed, signOf, shapeOfNumber, decoded}
+use Rattle.code.specs.Meaning.{Shape, nought, small, mid, big, leadingIn, leading, shapeOf, bigOf, leastCoded, largest, longestRun, filled, magnitude, sign, value, signed, signOf, shapeOfNumber}
 use Rattle.code.specs.Shapes.{Drop, none, three, Valid}
 
 -- the least magnitude of a shape

@@ -1,15 +1,15 @@
 -- Packed codes, in document 01's words and order: a number has a shape, a shape has bits, bits are parsed to a shape, a shape has a value.
 -- Assumes nothing.
-use mathlib.Core.Bool.{Bool, true, false, _&&_}
+use mathlib.Core.Bool.{Bool, true, _&&_}
 use mathlib.Core.List.{List, [], _∷_, _++_}
 use Prim.Native.Nat.{ℕ, zero, suc, _+_, _*_, _-_, _/_, _%_, _^_}
 use lib.IntN.{ℤ, pos, negsuc, negℤ, natAbs}
 use lib.ListN.{length, take, drop, replicate}
 use lib.Dec.{ltb, leb, eqb}
-use lib.Seq.{paste}
 use Rattle.ground.specs.Choice.{pick}
 use Rattle.ground.specs.Paper.{Paper, accepted, refused}
 use Rattle.ground.specs.Bits.{toBits, bitsOf}
+use Rattle.ground.specs.Putting.{put}
 
 -- "with drop 0 or 3"
 abbrev pub dropTaken : ℕ → Bool
@@ -70,7 +70,7 @@ bits d (small s x) = coded s 0 (toBits (4 - d) x)
 bits d (mid s x) = coded s 1 (toBits (3 - d) x)
 bits d (big s ones p x) = coded s ones (p ∷ toBits (ones + 1 - d) x)
 
--- the bits of the magnitude that the code leaves out: the dashes of tables 14 and 15 of 000
+-- the bits of the magnitude that the code leaves out: the dashes of tables 14 and 15 of 000; nought has none
 abbrev pub leftOut : ℕ → Shape → ℕ
 leftOut d nought = 0
 leftOut d (small s x) = d
@@ -222,7 +222,7 @@ padded at code = code ++ replicate (toByteEnd (at + length code)) 0
 
 -- "sets the rest of its last byte to 0 and changes no other bit"
 abbrev pub putAt : List ℕ → ℕ → List ℕ → List ℕ
-putAt old at code = paste old at (padded at code) (length (padded at code))
+putAt old at code = put old at (padded at code)
 
 -- so many bytes, from their bits
 unfoldable pub bytesFrom : ℕ → List ℕ → List ℕ

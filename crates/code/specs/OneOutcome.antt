@@ -3,10 +3,10 @@
 use mathlib.Core.Path.{_≡_}
 use mathlib.Core.List.{List}
 use Prim.Native.Nat.{ℕ}
-use lib.IntN.{ℤ}
-use Rattle.ground.specs.Paper.{one-answer, one-value}
+use lib.IntN.{ℤ, natAbs}
+use Rattle.ground.specs.Paper.{numberOf, one-answer, one-value}
 use Rattle.code.specs.Answers.{packedPaper, packedBack, packed-home, unpackedPaper, unpackedBack, unpacked-home}
-use Rattle.code.specs.Promise.{PackPromise, UnpackPromise, ReaderPromise}
+use Rattle.code.specs.Promise.{PackPromise, UnpackPromise, ReaderPromise, SignPromise}
 use denote.Ref.{RefT}
 use Rattle.code.specs.declared.Reader.{Reader}
 use Rattle.code.specs.declared.Packed.{Packed}
@@ -24,3 +24,19 @@ unpack-one p q = one-answer unpackedPaper unpackedBack unpacked-home (p .answer)
 -- making and moving a reader have one outcome: the same lent bytes, the same position
 pub reader-one : {bytes : RefT (List ℕ)} {at : ℕ} {r s : Reader} → ReaderPromise bytes at r → ReaderPromise bytes at s → r ≡ s
 reader-one p q = λ i. record { bytes = one-value (p .lent) (q .lent) i; at = one-value (p .place) (q .place) i }
+
+-- one number for an answer of writing
+pub packed-number-one : (answer : Packed) {m n : ℕ} → m ≡ numberOf (packedPaper answer) → n ≡ numberOf (packedPaper answer) → m ≡ n
+packed-number-one answer p q = one-value p q
+
+-- one number for an answer of reading
+pub unpacked-number-one : (answer : Unpacked) {m n : ℕ} → m ≡ numberOf (unpackedPaper answer) → n ≡ numberOf (unpackedPaper answer) → m ≡ n
+unpacked-number-one answer p q = one-value p q
+
+-- one magnitude for a number
+pub magnitude-one : (v : ℤ) {m n : ℕ} → m ≡ natAbs v → n ≡ natAbs v → m ≡ n
+magnitude-one v p q = one-value p q
+
+-- one sign bit for a number
+pub sign-one : (v : ℤ) {m n : ℕ} → SignPromise v m → SignPromise v n → m ≡ n
+sign-one v p q = one-value (p .answer) (q .answer)

@@ -4,15 +4,14 @@ use mathlib.Core.Path.{_≡_, refl, sym, ap, ap₂, _∙_, subst}
 use mathlib.Core.Bool.{Bool, true, false}
 use mathlib.Core.List.{List, [], _∷_, _++_}
 use Prim.Native.Nat.{ℕ, zero, suc, _+_, _*_, _-_, _/_, _%_, _^_, _<_, _≤_, min}
-use native.Mathlib.Nat.{mul-comm}
 use native.Mathlib.Omega.{arith}
 use lib.ListN.{length, length-append, length-take, length-drop, take, drop, getD, take-append-drop, List·getD-append}
-use lib.Seq.{getD-take, getD-drop, getD-append-add, take-suc, length-take-le, drop-cons}
+use lib.Seq.{getD-take, getD-append-add, length-take-le}
 use lib.Dec.{ltb}
 use borrow.Author.Tests.{ltb-true, ltb-false}
 use Rattle.ground.specs.Bits.{toBits, bitsOf}
 use Rattle.code.specs.Meaning.{counted, fromBits, bytesFrom}
-use Rattle.code.specs.BitLists.{allBits, allBits-take, allBits-drop, allBits-bitsOf, length-bitsOf, fromBits-lt, fromBits-toBits, toBits-fromBits}
+use Rattle.code.specs.BitLists.{allBits, allBits-take, allBits-drop, allBits-bitsOf, length-bitsOf, fromBits-toBits, toBits-fromBits}
 
 -- eight bits a byte count, but none from position 2^63 on
 pub length-counted : (bytes : List ℕ) → length (counted bytes) ≡ min (2 ^ 63) (8 * length bytes)

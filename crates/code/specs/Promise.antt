@@ -2,9 +2,9 @@
 -- Assumes nothing.
 use mathlib.Core.Path.{_≡_}
 use mathlib.Core.List.{List}
-use Prim.Native.Nat.{ℕ}
+use Prim.Native.Nat.{ℕ, _<_}
 use lib.IntN.{ℤ}
-use Rattle.code.specs.Meaning.{packMeans, packLeaves, unpackMeans}
+use Rattle.code.specs.Meaning.{packMeans, packLeaves, unpackMeans, signOf}
 use Rattle.code.specs.Answers.{packedPaper, unpackedPaper}
 use denote.Ref.{RefT}
 use Rattle.code.specs.declared.Reader.{Reader}
@@ -24,3 +24,8 @@ pub record UnpackPromise (bytes : List ℕ) (at d : ℕ) (r : Unpacked) : Type 0
 pub record ReaderPromise (bytes : RefT (List ℕ)) (at : ℕ) (r : Reader) : Type 0 where
   pub lent : r .bytes ≡ bytes
   pub place : r .at ≡ at
+
+-- a sign bit: 1 for negative, and a bit
+pub record SignPromise (v : ℤ) (r : ℕ) : Type 0 where
+  pub answer : r ≡ signOf v
+  pub bit : r < 2

@@ -3,17 +3,17 @@
 use mathlib.Core.Path.{_≡_, refl, sym, ap, ap₂, _∙_, subst}
 use mathlib.Core.Bool.{Bool, true, false, _&&_}
 use mathlib.Core.List.{List, [], _∷_, _++_, append-assoc}
-use Prim.Native.Nat.{ℕ, zero, suc, _+_, _*_, _-_, _/_, _%_, _^_, _<_, _≤_, max}
+use Prim.Native.Nat.{ℕ, zero, suc, _+_, _-_, _^_, _<_, _≤_}
 use native.Mathlib.Nat.{suc-add, add-suc, add-zero, zero-add}
 use native.Mathlib.Omega.{arith}
-use lib.ListN.{length, length-append, length-take, take, drop, replicate, take-append-drop}
+use lib.ListN.{length, length-append, take, drop, replicate, take-append-drop}
 use lib.Seq.{take-at, drop-at, length-take-le}
-use lib.Dec.{ltb, leb, eqb}
+use lib.Dec.{ltb, eqb}
 use borrow.Author.Tests.{lt-ltb, le-ltb, ltb-true, ltb-false, eq-eqb, ne-eqb, eqb-true, eqb-false}
 use Rattle.ground.specs.Choice.{pick, pick-elim}
-use Rattle.ground.specs.Bits.{toBits, bitsOf}
+use Rattle.ground.specs.Bits.{toBits}
 use Rattle.code.specs.Meaning.{Shape, nought, small, mid, big, Parsed, found, ranOut, redundantZero, runTooLong, longestRun, dropTaken, bits, coded, parse, afterSign, afterRun, parityThen, unlessZero, field, fromBits}
-use Rattle.code.specs.BitLists.{allBits, allBits-take, allBits-drop, length-toBits, fromBits-toBits, toBits-fromBits, fromBits-lt}
+use Rattle.code.specs.BitLists.{allBits, allBits-take, length-toBits, fromBits-toBits, toBits-fromBits, fromBits-lt}
 
 -- the two truth values differ
 pub false-true : false ≡ true → ⊥

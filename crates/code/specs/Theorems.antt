@@ -3,17 +3,18 @@
 use mathlib.Core.Path.{_≡_, refl, sym, ap, ap₂, _∙_, subst}
 use mathlib.Core.Bool.{Bool, true, false, _&&_}
 use mathlib.Core.List.{List, [], _∷_, _++_, append-assoc, map}
-use Prim.Native.Nat.{ℕ, zero, suc, _+_, _*_, _-_, _/_, _%_, _^_, _<_, _≤_, min}
+use Prim.Native.Nat.{ℕ, zero, suc, _+_, _-_, _^_, _≤_}
 use native.Mathlib.Omega.{arith}
-use lib.IntN.{ℤ, pos, negsuc, natAbs}
+use lib.IntN.{ℤ, natAbs}
 use lib.ListN.{length, length-append, length-take, length-drop, take, drop, replicate, length-replicate, take-append-drop}
-use lib.Seq.{take-take, take-at, drop-at, take-length, drop-drop, length-paste, take-append-le, length-take-le}
-use lib.Dec.{leb, ltb}
+use lib.Seq.{take-take, take-at, drop-at, length-take-le}
+use lib.Dec.{leb}
 use borrow.Author.Tests.{le-leb, leb-true}
 use Rattle.ground.specs.Choice.{pick}
 use Rattle.ground.specs.Paper.{Paper, accepted, refused}
 use Rattle.ground.specs.Bits.{toBits, bitsOf}
-use Rattle.code.specs.Meaning.{Shape, nought, small, mid, big, Parsed, found, ranOut, redundantZero, runTooLong, Taken, bits, value, sign, magnitude, shapeOf, leadingIn, shapeOfNumber, codeOf, decoded, counted, parse, parseAt, answerOf, unpackMeans, inRule, codeFits, packMeans, packLeaves, putAt, padded, toByteEnd, bytesWith, bytesFrom, dropTaken, largest}
+use Rattle.ground.specs.Putting.{length-put}
+use Rattle.code.specs.Meaning.{Shape, nought, small, mid, big, Parsed, found, ranOut, redundantZero, runTooLong, Taken, bits, value, sign, magnitude, shapeOfNumber, codeOf, decoded, counted, parse, parseAt, answerOf, unpackMeans, inRule, codeFits, packMeans, packLeaves, putAt, padded, toByteEnd, bytesWith, dropTaken, largest}
 use Rattle.code.specs.BitLists.{allBits, allBits-append, allBits-take, allBits-drop, allBits-toBits, allBits-bitsOf, length-bitsOf}
 use Rattle.code.specs.Positions.{length-counted, allBits-counted, bits-back, length-bytesFrom}
 use Rattle.code.specs.Shapes.{Drop, drop-of, Valid, parse-bits, found-exact, false-true}
@@ -58,6 +59,8 @@ unpacks-shape bytes at d shape t v h e =
 -- what was read at a position: a shape, whose bits stand there
 pub record ReadAt (bytes : List ℕ) (at d : ℕ) (t : Taken) : Type 0 where
   pub shape : Shape
+  pub rest : List ℕ
+  pub parsed : parseAt bytes at d ≡ found shape rest
   pub taken : dropTaken d ≡ true
   pub valid : Valid d shape
   pub number : t .value ≡ value d shape
@@ -96,6 +99,8 @@ read-at bytes at d {t} e = by-drop (dropTaken d) refl e
         let room : at + n ≤ length (counted bytes) = omega (arith, length-drop at (counted bytes), Rattle.code.specs.Shapes.bits-some d shape) in
         record {
           shape = shape;
+          rest = rest;
+          parsed = p;
           taken = k;
           valid = x .1;
           number = ap (λ (u : Taken). u .value) (sym same);
@@ -111,6 +116,10 @@ read-at bytes at d {t} e = by-drop (dropTaken d) refl e
     by-drop true k e = by-shape (parseAt bytes at d) refl k e
     by-drop false k e = absurd (not-refused e)
 
+-- the number that was read has the shape that was read
+pub read-shape : {bytes : List ℕ} {at d : ℕ} {t : Taken} (r : ReadAt bytes at d t) → shapeOfNumber d (t .value) ≡ r .shape
+read-shape {d = d} r = ap (shapeOfNumber d) (r .number) ∙ shape-of-value d (r .shape) (drop-of d (r .taken)) (r .valid)
+
 -- ---- codes that are put into bytes
 
 -- a code with the rest of its last byte has room where the code has
@@ -121,6 +130,7 @@ padded-room buffer at code h =
     = length-append code (replicate (toByteEnd (at + length code)) 0) ∙ ap (λ (n : ℕ). length code + n) (length-replicate (toByteEnd (at + length code)) 0) in
     omega (arith, length-counted buffer, length-bitsOf buffer)
 
+-- zeros are bits
 allBits-zeros : (n : ℕ) → allBits (replicate n 0)
 allBits-zeros zero = tt
 allBits-zeros (suc n) = (omega arith, allBits-zeros n)
@@ -131,34 +141,42 @@ module _ (buffer : List ℕ) (at : ℕ) (code : List ℕ) (room : at + length co
   put-bits =
       let old : List ℕ = bitsOf buffer in
       let new : List ℕ = padded at code in
-      let fits : at + length new ≤ length old = padded-room buffer at code room in
       bits-back (length buffer) (putAt old at code)
-      (length-paste old at new (length new) fits (omega arith) ∙ length-bitsOf buffer)
-      (allBits-append (take at old ++ take (length new) new) (drop (at + length new) old)
-      (allBits-append (take at old) (take (length new) new) (allBits-take at old (allBits-bitsOf buffer))
-      (allBits-take (length new) new (allBits-append code (replicate (toByteEnd (at + length code)) 0) fine (allBits-zeros (toByteEnd (at + length code))))))
-      (allBits-drop (at + length new) old (allBits-bitsOf buffer)))
+      (length-put old at new (padded-room buffer at code room) ∙ length-bitsOf buffer)
+      (allBits-append (take at old) (new ++ drop (at + length new) old) (allBits-take at old (allBits-bitsOf buffer))
+      (allBits-append new (drop (at + length new) old)
+      (allBits-append code (replicate (toByteEnd (at + length code)) 0) fine (allBits-zeros (toByteEnd (at + length code))))
+      (allBits-drop (at + length new) old (allBits-bitsOf buffer))))
+
+  -- the bits before the code are as many as its position says
+  front : length (take at (bitsOf buffer)) ≡ at
+  front = length-take-le at (bitsOf buffer) (omega (arith, padded-room buffer at code room))
 
   -- "changes no other bit": those before it
   pub put-keeps : take at (bitsOf (bytesWith buffer at code)) ≡ take at (bitsOf buffer)
   put-keeps =
       let old : List ℕ = bitsOf buffer in
       let new : List ℕ = padded at code in
-      ap (take at) (put-bits ∙ append-assoc (take at old) (take (length new) new) (drop (at + length new) old))
-      ∙ take-at (take at old) (take (length new) new ++ drop (at + length new) old) at
-      (length-take-le at old (omega (arith, padded-room buffer at code room)))
+      ap (take at) put-bits ∙ take-at (take at old) (new ++ drop (at + length new) old) at front
 
-  -- and the code stands at its place
+  -- and those after its last byte
+  pub put-keeps-after : drop (at + length (padded at code)) (bitsOf (bytesWith buffer at code)) ≡ drop (at + length (padded at code)) (bitsOf buffer)
+  put-keeps-after =
+      let old : List ℕ = bitsOf buffer in
+      let new : List ℕ = padded at code in
+      ap (drop (at + length new)) (put-bits ∙ sym (append-assoc (take at old) new (drop (at + length new) old)))
+      ∙ drop-at (take at old ++ new) (drop (at + length new) old) (at + length new)
+      (length-append (take at old) new ∙ ap (λ (n : ℕ). n + length new) front)
+
+  -- the code stands at its place
   pub put-stands : bitsAt (bytesWith buffer at code) at (length code) ≡ code
   put-stands =
       let old : List ℕ = bitsOf buffer in
       let new : List ℕ = padded at code in
       let zeros : List ℕ = replicate (toByteEnd (at + length code)) 0 in
-      ap (λ (k : List ℕ). take (length code) (drop at k)) (put-bits ∙ append-assoc (take at old) (take (length new) new) (drop (at + length new) old))
+      ap (λ (k : List ℕ). take (length code) (drop at k)) put-bits
       ∙ ap (take (length code))
-      (drop-at (take at old) (take (length new) new ++ drop (at + length new) old) at (length-take-le at old (omega (arith, padded-room buffer at code room)))
-      ∙ ap (λ (k : List ℕ). k ++ drop (at + length new) old) (take-length new)
-      ∙ append-assoc code zeros (drop (at + length new) old))
+      (drop-at (take at old) (new ++ drop (at + length new) old) at front ∙ append-assoc code zeros (drop (at + length new) old))
       ∙ take-at code (zeros ++ drop (at + length new) old) (length code) refl
 
   -- as many bits count as before
@@ -223,6 +241,7 @@ pub record SameBits (bytes buffer : List ℕ) (at d : ℕ) (t : Taken) : Type 0 
   pub answer : packMeans buffer at (t .value) d ≡ accepted (t .next)
   pub same : bitsAt (packLeaves buffer at (t .value) d) at (t .next - at) ≡ bitsAt bytes at (t .next - at)
 
+-- and they do
 pub same-bits : (bytes buffer : List ℕ) (at d : ℕ) {t : Taken} → unpackMeans bytes at d ≡ accepted t → t .next ≤ length (counted buffer)
     → SameBits bytes buffer at d t
 same-bits bytes buffer at d {t} e room =

@@ -5,10 +5,11 @@ mod write;
 ghost use mathlib.Core.Path.{_≡_};
 ghost use mathlib.Core.Bool.{_&&_};
 ghost use lib.Dec.{leb};
+ghost use lib.IntN.{natAbs};
 ghost use Rattle.ground.specs.Paper.{numberOf};
 ghost use Rattle.code.specs.Meaning.{dropTaken, largest};
 ghost use Rattle.code.specs.Answers.{packedPaper, unpackedPaper};
-ghost use Rattle.code.specs.Promise.{PackPromise, UnpackPromise, ReaderPromise};
+ghost use Rattle.code.specs.Promise.{PackPromise, ReaderPromise, SignPromise, UnpackPromise};
 
 // The largest magnitude that is packed.
 const LARGEST: u32 = 33554431;
@@ -33,9 +34,9 @@ pub enum Unpacked {
 pub fn pack(buffer: &mut [u8], at: u64, v: i32, drop: u8) -> Packed
     ensures { λ r. ⌜ PackPromise (now (buffer .entry)) at v drop r (now (buffer .exit)) ⌝ }
 {
-    let m = write::magnitude(v);
+    let m = magnitude(v);
     if in_rule(m, drop) {
-        let code = write::code(wide(drop), write::sign(v), m);
+        let code = write::code(wide(drop), sign(v), m);
         write::place(buffer, at, code.number, code.count)
     } else {
         Packed::OutsideRule
@@ -83,7 +84,7 @@ pub fn moved_to<'a>(r: Reader<'a>, at: u64) -> Reader<'a>
 
 // A reader made at a position and asked: whoever calls this holds no reader.
 pub fn read_at(bytes: &[u8], at: u64, drop: u8) -> Unpacked
-    ensures { λ r. ⌜ UnpackPromise (now (bytes .entry)) at drop r ⌝ }
+    ensures { λ u. ⌜ UnpackPromise (now (bytes .entry)) at drop u ⌝ }
 {
     next_code(reader_at(bytes, at), drop)
 }
@@ -110,6 +111,21 @@ pub fn unpacked_number(a: Unpacked) -> u8
         Unpacked::RedundantZero => 10,
         Unpacked::RunTooLong => 11,
     }
+}
+
+// The magnitude of a number, at every i32.
+pub fn magnitude(v: i32) -> u32
+    ensures { λ r. ⌜ r ≡ natAbs v ⌝ }
+{
+    let w = v as i64;
+    if w < 0 { (0 - w) as u32 } else { w as u32 }
+}
+
+// The sign bit of a number.
+pub fn sign(v: i32) -> u32
+    ensures { λ r. ⌜ SignPromise v r ⌝ }
+{
+    if v < 0 { 1 } else { 0 }
 }
 
 // Only drop 0 and drop 3 are taken.

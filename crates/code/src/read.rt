@@ -12,7 +12,7 @@ ghost use Rattle.code.specs.Steps.{restAnswer, normalAnswer, zeroAnswer,
 const LONGEST_RUN: u32 = 11;
 
 // How many bits count: eight a byte, and none from position 2^63 on.
-pub fn end_of(bytes: &[u8]) -> u64
+pub(crate) fn end_of(bytes: &[u8]) -> u64
     ensures { λ r. ⌜ r ≡ length (counted (now (bytes .entry))) ⌝ }
 {
     let n = bytes.len() as u64;
@@ -49,7 +49,7 @@ fn bit_wide(bytes: &[u8], at: u64) -> u32
 }
 
 // The code at a position.
-pub fn code(bytes: &[u8], at: u64, end: u64, drop: u32) -> Unpacked
+pub(crate) fn code(bytes: &[u8], at: u64, end: u64, drop: u32) -> Unpacked
     requires { ⌜ (end ≡ length (counted (now bytes))) × Drop drop ⌝ }
     ensures { λ r. ⌜ unpackedPaper r ≡ restAnswer drop end (parse drop (dropped at (counted (now (bytes .entry))))) ⌝ }
 {
@@ -188,7 +188,7 @@ fn field(bytes: &[u8], at: u64, width: u32) -> u32
 
 // A field with 0 for the first bit left out and 1 for the rest.
 fn fill(x: u32, left: u32) -> u32
-    requires { ⌜ (left < 32) × (filled left x < 2 ^ 32) ⌝ }
+    requires { ⌜ (left < 32) × (filled left x < 2 ^ 31) ⌝ }
     ensures { λ r. ⌜ r ≡ filled left x ⌝ }
 {
     if left == 0 {

@@ -3,37 +3,21 @@ use crate::Packed;
 use crate::read;
 ghost use mathlib.Core.Path.{_≡_};
 ghost use Prim.Native.Nat.{_+_, _-_, _*_, _/_, _%_, _^_, _<_, _≤_};
-ghost use lib.IntN.{natAbs};
 ghost use lib.ListN.{length, set};
-ghost use lib.Seq.{paste};
 ghost use Rattle.ground.specs.Bits.{toBits, bitsOf};
-ghost use Rattle.code.specs.Meaning.{signOf, leastCoded, leading as leadingPlace, shapeOf, bits, coded as codedBits, bigOf, counted, toByteEnd, bytesWith, largest, longestRun};
+ghost use Rattle.ground.specs.Putting.{put as putOver};
+ghost use Rattle.code.specs.Meaning.{leastCoded, leading as leadingPlace, shapeOf, bits, coded as codedBits, bigOf, counted, toByteEnd, bytesWith, largest, longestRun};
 ghost use Rattle.code.specs.Shapes.{Drop};
 ghost use Rattle.code.specs.Steps.{Holds, PlacePromise, byteBits};
 
 // Bits held in a number, the first counting most.
-pub struct Held {
-    pub number: u64,
-    pub count: u32,
-}
-
-// The magnitude of a number, at every i32.
-pub fn magnitude(v: i32) -> u32
-    ensures { λ r. ⌜ r ≡ natAbs v ⌝ }
-{
-    let w = v as i64;
-    if w < 0 { (0 - w) as u32 } else { w as u32 }
-}
-
-// The sign bit of a number.
-pub fn sign(v: i32) -> u32
-    ensures { λ r. ⌜ (r ≡ signOf v) × (r < 2) ⌝ }
-{
-    if v < 0 { 1 } else { 0 }
+pub(crate) struct Held {
+    pub(crate) number: u64,
+    pub(crate) count: u32,
 }
 
 // The code of a sign and a magnitude inside the rule.
-pub fn code(drop: u32, sign: u32, m: u32) -> Held
+pub(crate) fn code(drop: u32, sign: u32, m: u32) -> Held
     requires { ⌜ Drop drop × (sign < 2) × (m ≤ largest) ⌝ }
     ensures { λ r. ⌜ Holds (r .number) (r .count) (bits drop (shapeOf drop sign m)) ⌝ }
 {
@@ -130,7 +114,7 @@ fn join(number: u64, count: u32, more: u64, width: u32) -> u64
 }
 
 // Bits put at a position, the rest of their last byte set to 0; or nothing, where they do not fit.
-pub fn place(buffer: &mut [u8], at: u64, number: u64, count: u32) -> Packed
+pub(crate) fn place(buffer: &mut [u8], at: u64, number: u64, count: u32) -> Packed
     requires { ⌜ (number < 2 ^ count) × (count ≤ 33) ⌝ }
     ensures { λ r. ⌜ PlacePromise (now (buffer .entry)) at (toBits count number) r (now (buffer .exit)) ⌝ }
 {
@@ -157,7 +141,7 @@ fn to_byte_end(at: u64) -> u32
 // Bits put one after the other.
 fn put(buffer: &mut [u8], at: u64, number: u64, count: u32)
     requires { ⌜ (at + count ≤ length (counted (now buffer))) × (count ≤ 40) ⌝ }
-    ensures { λ _. ⌜ bitsOf (now (buffer .exit)) ≡ paste (bitsOf (now (buffer .entry))) at (toBits count number) count ⌝ }
+    ensures { λ _. ⌜ bitsOf (now (buffer .exit)) ≡ putOver (bitsOf (now (buffer .entry))) at (toBits count number) ⌝ }
 {
     let mut i: u32 = 0;
     while i < count {
@@ -197,5 +181,13 @@ fn with_bit(byte: u32, place: u32, bit: u32) -> u32
     ensures { λ r. ⌜ (byteBits r ≡ set (byteBits byte) place bit) × (r < 256) ⌝ }
 {
     let unit = power(7 - place);
-    (byte / unit / 2 * 2 + bit) * unit + byte % unit
+    replaced(byte / unit, bit) * unit + byte % unit
+}
+
+// Bits with another last one.
+fn replaced(high: u32, bit: u32) -> u32
+    requires { ⌜ (high < 256) × (bit < 2) ⌝ }
+    ensures { λ r. ⌜ r ≡ high / 2 * 2 + bit ⌝ }
+{
+    high / 2 * 2 + bit
 }

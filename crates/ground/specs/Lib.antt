@@ -1,4 +1,5 @@
 pub mod Choice
+pub mod Questions
 pub mod Paper
 pub mod Words
 pub mod Bits

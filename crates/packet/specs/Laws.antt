@@ -9,7 +9,7 @@ use native.Mathlib.Omega.{arith}
 use borrow.Author.Tests.{leb-true, ltb-true, eqb-true, le-leb, lt-ltb, eq-eqb}
 use lib.Dec.{leb, ltb, eqb}
 use lib.ListN.{length, take, drop}
-use Rattle.ground.specs.Choice.{pick}
+use Rattle.ground.specs.Questions.{both-hold}
 use Rattle.ground.specs.Paper.{Paper, accepted, refused, refusedWith}
 use Rattle.ground.specs.Words.{wordAt}
 use Rattle.crc.specs.Meaning.{checksumOf}
@@ -24,20 +24,15 @@ pub record Standing (l : List ℕ) (at : ℕ) : Type 0 where
   pub whole : at + (dataLength l at + 10) ≤ length l
   pub sum : checksumOf (take (dataLength l at + 8) (drop at l)) ≡ wordAt l (at + (dataLength l at + 8))
 
--- both tests of two that hold together
-both : {a b : Bool} → a && b ≡ true → (a ≡ true) × (b ≡ true)
-both {a = true} {b} e = (refl, e)
-both {a = false} {b} e = (e, cc)
-
 -- where the test says that a packet stands, all of it holds
 pub standing : (l : List ℕ) (at : ℕ) → stands l at ≡ true → Standing l at
 unfolding stands
 standing l at e =
-    let inside = both e in
-    let marks = both (inside .1) in
-    let sizes = both (marks .1) in
-    let word = both (sizes .0) in
-    let ends = both (sizes .1) in
+    let inside = both-hold e in
+    let marks = both-hold (inside .1) in
+    let sizes = both-hold (marks .1) in
+    let word = both-hold (sizes .0) in
+    let ends = both-hold (sizes .1) in
     record {
       room = leb-true _ _ (inside .0);
       mark = marks .0;

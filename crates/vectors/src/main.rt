@@ -1,11 +1,24 @@
 // The public calls, driven by blocks of standard input: the first byte of a block names the call, the rest is what the call
 // is given. Each block is answered by a line. What it must print comes from tests/reference.
+ghost use mathlib.Core.Path.{_≡_};
+ghost use lib.ListN.{length};
+
+mod messages;
+mod packets;
+mod say;
+
 use feed::Block;
-use libc::STDOUT_FILENO;
 
 fn main() {
-    let mut room = [0u8; 131072];
+    let mut room = largest();
     serve(&mut room);
+}
+
+// Room for the largest block.
+fn largest() -> [u8; 131072]
+    ensures { λ r. ⌜ 131072 ≡ length r ⌝ }
+{
+    [0; 131072]
 }
 
 // A proved loop has to end: it counts its turns down, from a number that no run uses up.
@@ -34,14 +47,20 @@ fn answer(block: &[u8]) {
         return;
     }
     let call = block[0];
+    let given = &block[1..];
     match call {
-        b'c' => checksum(&block[1..]),
+        b'c' => checksum(given),
+        b'f' => packets::find(given),
+        b'h' => packets::header(given),
+        b'w' => packets::write(given),
+        b'r' => messages::read(given),
+        b'm' => messages::write(given),
         _ => (),
     }
-    io::write_all(STDOUT_FILENO, b"\n");
+    say::end();
 }
 
 // The checksum of the bytes, in four hexadecimal digits.
 fn checksum(bytes: &[u8]) {
-    io::print_hex(STDOUT_FILENO, crc::checksum(bytes) as u64, 4);
+    say::sum(bytes);
 }

@@ -4,9 +4,12 @@ use mathlib.Core.Path.{sym, ap, _∙_, subst}
 use lib.IntN.{natAbs}
 use mir.Syntax.{w32}
 use mir.ValLaws.{toZ-ofZ}
-use Rattle.code.specs.Meaning.{dropTaken, signOf}
+use Rattle.code.specs.Meaning.{dropTaken, largest, signOf}
 use Rattle.code.specs.Shapes.{Drop, drop-of}
-use Rattle.code.proofs.Writing.{pack-is, pack-refuses, rule-drop, rule-fits}
+use Rattle.code.proofs.Writing.{pack-is, pack-refuses}
+use borrow.Author.Tests.{leb-true}
+use Rattle.ground.specs.Questions.{both-hold}
+use native.Mathlib.Omega.{arith}
 use borrow.Author.Needs.{needs}
 use Rattle.code.proofs.pack.Statement.{statement}
 use Rattle.code.proofs.pack.Tie as tie
@@ -26,8 +29,9 @@ sign-requires c κs = search needs
 code-requires : tie.Need-code-requires
 code-requires c κs =
     let a = c .before .before .before .before .before .before .args in
-    let t = sym (c .before .before .before .in-rule .ensures) ∙ c .before .before .if1 .taken in
-    (subst Drop (sym (c .before .wide .ensures)) (drop-of (a .drop) (rule-drop _ _ t)), c .sign .ensures .1, rule-fits (dropTaken (a .drop)) _ t)
+    let t = both-hold {a = dropTaken (a .drop)} (sym (c .before .before .before .in-rule .ensures) ∙ c .before .before .if1 .taken) in
+    let small = leb-true (c .before .before .before .before .magnitude .result) largest (t .1) in
+    (subst Drop (sym (c .before .wide .ensures)) (drop-of (a .drop) (t .0)), c .sign .ensures .bit, omega arith)
 
 place-requires : tie.Need-place-requires
 place-requires c κs = search needs
@@ -42,7 +46,7 @@ returns c =
     let p = c .before .before .place in
     let v-is = toZ-ofZ w32 (a .v) (c .before .before .before .before .before .before .before .before .before .before .before .fits .v) in
     pack-is (a .buffer .now) (p .last .0) (a .at) (a .v) (a .drop) (c .before .before .before .before .before .before .wide .result) (c .before .before .before .before .before .sign .result) (c .before .before .before .before .before .before .before .before .before .magnitude .result) _ _ (p .result)
-    (c .before .before .before .before .before .before .before .before .before .magnitude .ensures ∙ ap natAbs v-is) (c .before .before .before .before .before .sign .ensures .0 ∙ ap signOf v-is) (c .before .before .before .before .before .before .wide .ensures) t (c .before .before .before .before .code .ensures) (p .ensures)
+    (c .before .before .before .before .before .before .before .before .before .magnitude .ensures ∙ ap natAbs v-is) (c .before .before .before .before .before .sign .ensures .answer ∙ ap signOf v-is) (c .before .before .before .before .before .before .wide .ensures) t (c .before .before .before .before .code .ensures) (p .ensures)
 
 returns-2 : tie.Need-returns-2
 returns-2 c =

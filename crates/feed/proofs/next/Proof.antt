@@ -1,8 +1,8 @@
 -- `feed::next` meets its contract: the block was read into the front of the room.
 -- Assumes nothing.
 use native.Mathlib.Omega.{arith}
-use lib.ListN.{length-take}
 use borrow.Author.Needs.{needs}
+use lib.ListN.{length-take}
 use Rattle.feed.proofs.next.Statement.{statement}
 use Rattle.feed.proofs.next.Tie as tie
 
@@ -15,8 +15,11 @@ read-full-requires c κs = search needs
 returns : tie.Need-returns
 returns c = search needs
 
-size-of-requires : tie.Need-size-of-requires
-size-of-requires c κs = search needs
+slice-aggregate-four : tie.Need-slice-aggregate-four
+slice-aggregate-four c = search needs
+
+four-requires : tie.Need-four-requires
+four-requires c κs = search needs
 
 returns-2 : tie.Need-returns-2
 returns-2 c = search needs
@@ -49,7 +52,8 @@ next-spec =
     slice-aggregate-read-full
     read-full-requires
     returns
-    size-of-requires
+    slice-aggregate-four
+    four-requires
     returns-2
     slice-relend-prefix-read-full
     slice-aggregate-read-full-2

@@ -1,7 +1,6 @@
 -- `code::read::after_run` meets its contract: no ones, one, or more with a parity.
 -- Assumes nothing.
-use mathlib.Core.Path.{_≡_, ap, sym, _∙_, subst}
-use Prim.Native.Nat.{ℕ}
+use mathlib.Core.Path.{_∙_}
 use native.Mathlib.Omega.{arith}
 use borrow.Author.Needs.{needs}
 use Rattle.code.specs.Magnitudes.{drop-small}

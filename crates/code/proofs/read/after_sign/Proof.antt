@@ -44,8 +44,8 @@ returns-2 c =
     let l = c .before .before .before .before .loop in
     let b = c .before .before .bit in
     answer-by _ _ (l .inv .2)
-    (run-too-long _ (l .here) _ _ _ _ (b .result) (c .before .before .before .before .before .before .pre .0) (c .before .before .before .loop-test .taken) (b .ensures .0)
-    (c .before .if1 .left) (c .if2 .taken))
+    (run-too-long _ (l .here) _ _ _ (l .ones) (b .result) (c .before .before .before .before .before .before .pre .0) (c .before .before .before .loop-test .taken) (b .ensures .0)
+    (c .before .if1 .left) (omega arith))
     refl
 
 add-ones : tie.Need-add-ones Inv-loop μ-loop

@@ -1,10 +1,8 @@
 -- `code::read::fill` meets its contract: the shifts lose nothing.
 -- Assumes nothing.
-use mathlib.Core.Path.{sym, ap}
-use Prim.Native.Nat.{ℕ}
+use Prim.Native.Nat.{_-_}
 use native.Mathlib.Omega.{arith}
 use borrow.Author.Needs.{needs}
-use Rattle.code.specs.Meaning.{filled}
 use Rattle.code.proofs.Reading.{fill-shifts, fill-none, shift-positive}
 use Rattle.code.proofs.read.fill.Statement.{statement}
 use Rattle.code.proofs.read.fill.Tie as tie
@@ -19,7 +17,9 @@ shl-result-2 : tie.Need-shl-result-2
 shl-result-2 c = search needs
 
 sub-result-2 : tie.Need-sub-result-2
-sub-result-2 c = shift-positive _ (search needs)
+sub-result-2 c =
+    let a = c .before .args in
+    omega (arith, shift-positive (a .left - 1) 32 (omega arith))
 
 add-result : tie.Need-add-result
 add-result c = search needs

@@ -1,6 +1,8 @@
 -- `code::write::all_ones` meets its contract: the shift loses nothing.
 -- Assumes nothing.
-use Rattle.code.proofs.Writing.{ones-are, ones-positive}
+use Rattle.code.proofs.Writing.{ones-are}
+use Rattle.code.proofs.Reading.{shift-positive}
+use native.Mathlib.Omega.{arith}
 use borrow.Author.Needs.{needs}
 use Rattle.code.proofs.write.all_ones.Statement.{statement}
 use Rattle.code.proofs.write.all_ones.Tie as tie
@@ -9,7 +11,7 @@ shl-result : tie.Need-shl-result
 shl-result c = search needs
 
 sub-result : tie.Need-sub-result
-sub-result c = ones-positive _ (c .pre)
+sub-result c = shift-positive _ 64 (omega arith)
 
 returns : tie.Need-returns
 returns c = ones-are _ (c .pre)

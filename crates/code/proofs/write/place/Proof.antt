@@ -1,7 +1,8 @@
 -- `code::write::place` meets its contract: bits that do not fit change nothing; bits that fit stand at their place.
 -- Assumes nothing.
 use lib.Pow.{pow-pos}
-use Rattle.code.proofs.Writing.{place-short, place-there, pad-fits}
+use Rattle.code.proofs.Writing.{place-short, place-there}
+use Rattle.code.specs.Positions.{length-counted}
 use native.Mathlib.Omega.{arith}
 use borrow.Author.Needs.{needs}
 use Rattle.code.proofs.write.place.Statement.{statement}
@@ -29,7 +30,7 @@ returns-2 c =
     place-short (a .buffer .now) (a .at) (a .number) (a .count) (e .result) (e .ensures) (omega arith)
 
 add-next : tie.Need-add-next
-add-next c = search needs
+add-next c = omega (arith, length-counted (c .before .before .before .before .before .args .buffer .now))
 
 to-byte-end-requires : tie.Need-to-byte-end-requires
 to-byte-end-requires c κs = search needs
@@ -45,7 +46,7 @@ add-put c = search needs
 put-requires : tie.Need-put-requires
 put-requires c κs =
     let a = c .before .before .before .before .before .before .before .before .args in
-    (pad-fits (a .buffer .now) (a .at) (a .count) _ (omega arith) (c .before .before .to-byte-end .ensures .0), omega arith)
+    (omega (arith, length-counted (a .buffer .now), c .before .before .to-byte-end .ensures .0), omega arith)
 
 same-length-3 : tie.Need-same-length-3
 same-length-3 c = search needs

@@ -1,7 +1,6 @@
 -- `code::write::power` meets its contract: the shift loses nothing.
 -- Assumes nothing.
-use Rattle.code.proofs.Parts.{shift-is}
-use Rattle.code.proofs.Reading.{shift-positive}
+use Rattle.code.proofs.Reading.{shift-is, shift-positive}
 use borrow.Author.Needs.{needs}
 use Rattle.code.proofs.write.power.Statement.{statement}
 use Rattle.code.proofs.write.power.Tie as tie
@@ -10,7 +9,7 @@ shl-result : tie.Need-shl-result
 shl-result c = search needs
 
 returns : tie.Need-returns
-returns c = (shift-is _ (c .pre), shift-positive _ (c .pre))
+returns c = (shift-is _ 32 (c .pre), shift-positive _ 32 (c .pre))
 
 pub power-spec : {M : Type 1} → statement M
 power-spec = tie.close (tie.spec shl-result returns)

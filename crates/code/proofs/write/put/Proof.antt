@@ -1,7 +1,7 @@
 -- `code::write::put` meets its contract: after i turns the first i bits stand at their places.
 -- Assumes nothing.
-use mathlib.Core.Path.{_≡_, refl, ap, sym, _∙_}
-use Prim.Native.Nat.{_+_, _-_, _≤_}
+use mathlib.Core.Path.{_≡_, refl, _∙_}
+use Prim.Native.Nat.{_-_, _≤_}
 use lib.ListN.{length}
 use lib.Seq.{paste, paste-zero}
 use Rattle.ground.specs.Bits.{toBits, bitsOf}

@@ -1,6 +1,6 @@
 -- `code::write::put_bit` meets its contract: the byte that holds the position is stored with its bit put.
 -- Assumes nothing.
-use mathlib.Core.Path.{ap, sym, _∙_}
+use mathlib.Core.Path.{ap, _∙_}
 use Prim.Native.Nat.{ℕ, _%_}
 use lib.ListN.{set}
 use Rattle.code.specs.Positions.{counted-inside}

@@ -1,14 +1,14 @@
--- `code::write::magnitude` meets its contract: 64 bits hold the negation of every i32.
+-- `code::magnitude` meets its contract: 64 bits hold the negation of every i32.
 -- Assumes nothing.
 use Rattle.code.proofs.Writing.{cast-fits, negated-fits, negated-cast, negated-is, natural-cast, natural-is}
-use Rattle.code.proofs.write.magnitude.Statement.{statement}
-use Rattle.code.proofs.write.magnitude.Tie as tie
+use Rattle.code.proofs.magnitude.Statement.{statement}
+use Rattle.code.proofs.magnitude.Tie as tie
 
 cast-w : tie.Need-cast-w
 cast-w c = cast-fits _ (c .fits .v)
 
 sub-result : tie.Need-sub-result
-sub-result c = negated-fits _ (c .before .fits .v) (c .if1 .taken)
+sub-result c = negated-fits _ (c .before .fits .v)
 
 cast-result : tie.Need-cast-result
 cast-result c = negated-cast _ (c .before .fits .v) (c .if1 .taken)

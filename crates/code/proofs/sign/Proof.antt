@@ -1,8 +1,8 @@
--- `code::write::sign` meets its contract: 1 for negative.
+-- `code::sign` meets its contract: 1 for negative.
 -- Assumes nothing.
 use Rattle.code.proofs.Writing.{sign-minus, sign-plus}
-use Rattle.code.proofs.write.sign.Statement.{statement}
-use Rattle.code.proofs.write.sign.Tie as tie
+use Rattle.code.proofs.sign.Statement.{statement}
+use Rattle.code.proofs.sign.Tie as tie
 
 returns : tie.Need-returns
 returns c = sign-minus _ (c .before .fits .v) (c .if1 .taken)

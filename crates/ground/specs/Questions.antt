@@ -1,0 +1,19 @@
+-- Tests of the code that were answered, as tests of the definitions.
+-- Assumes nothing.
+use mathlib.Core.Path.{_≡_, refl, sym}
+use mathlib.Core.Bool.{Bool, true, false, not, _&&_}
+
+-- a question that was answered no
+pub answered-no : {r b : Bool} → r ≡ b → not r ≡ true → b ≡ false
+answered-no {r = true} p q = cc
+answered-no {r = false} p q = sym p
+
+-- a question that was answered yes
+pub answered-yes : {r b : Bool} → r ≡ b → not r ≡ false → b ≡ true
+answered-yes {r = true} p q = sym p
+answered-yes {r = false} p q = cc
+
+-- both tests of two that hold together
+pub both-hold : {a b : Bool} → a && b ≡ true → (a ≡ true) × (b ≡ true)
+both-hold {a = true} {b} e = (refl, e)
+both-hold {a = false} {b} e = (e, cc)

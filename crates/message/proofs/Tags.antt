@@ -1,0 +1,52 @@
+-- Which tags and values are within the rule.
+-- Assumes nothing.
+use mathlib.Core.Path.{_≡_, refl, sym, ap, _∙_}
+use mathlib.Core.Bool.{Bool, true, false, _&&_}
+use mathlib.Core.List.{List}
+use Prim.Native.Nat.{ℕ, zero, suc, _<_, _≤_, _^_}
+use native.Mathlib.Nat.{not-suc-le-zero}
+use native.Mathlib.Omega.{arith}
+use borrow.Author.Tests.{le-leb, lt-leb, lt-ltb, eq-eqb, ne-eqb}
+use lib.Dec.{leb, ltb, lit≤}
+use lib.ListN.{getD}
+use Rattle.message.specs.Meaning.{dataSize, sayable, marked}
+
+-- a tag above 2 stands for eight bytes
+pub eight : (tag : ℕ) → (tag ≡ 0 → ⊥) → (tag ≡ 1 → ⊥) → (tag ≡ 2 → ⊥) → 8 ≡ dataSize tag
+eight zero a b c = absurd (a refl)
+eight (suc zero) a b c = absurd (b refl)
+eight (suc (suc zero)) a b c = absurd (c refl)
+eight (suc (suc (suc t))) a b c = refl
+
+-- a tag has at most eight bytes
+pub size-most : (tag : ℕ) → dataSize tag ≤ 8
+size-most zero = lit≤ tt
+size-most (suc zero) = lit≤ tt
+size-most (suc (suc zero)) = lit≤ tt
+size-most (suc (suc (suc t))) = lit≤ tt
+
+module _ (address tag value : ℕ) where
+  pub far : 0x3FFF < address → false ≡ sayable address tag value
+  far h = rw (lt-leb address 0x3FFF h)
+
+  -- of a known tag, the value's bits settle it
+  pub near : {known : ℕ} → address ≤ 0x3FFF → tag ≡ known → leb known 3 ≡ true → ltb value (256 ^ dataSize known) ≡ sayable address tag value
+  near h is t = rw (is, le-leb address 0x3FFF h, t)
+
+  pub no-tag : address ≤ 0x3FFF → 3 < tag → false ≡ sayable address tag value
+  no-tag h g = rw (le-leb address 0x3FFF h, lt-leb tag 3 g)
+
+  -- no bit of a 64-bit value is beyond eight bytes
+  pub whole : address ≤ 0x3FFF → tag ≡ 3 → value < 2 ^ 64 → true ≡ sayable address tag value
+  whole h is g = sym (lt-ltb value (256 ^ 8) g) ∙ near h is refl
+
+-- the mark, byte after byte
+module _ (bytes : List ℕ) where
+  pub unmarked-first : (getD bytes 0 0 ≡ 0x3C → ⊥) → marked bytes ≡ false
+  unmarked-first h = rw (ne-eqb (getD bytes 0 0) 0x3C h)
+
+  pub unmarked-second : getD bytes 0 0 ≡ 0x3C → (getD bytes 1 0 ≡ 0x3D → ⊥) → marked bytes ≡ false
+  unmarked-second e h = rw (eq-eqb (getD bytes 0 0) 0x3C e, ne-eqb (getD bytes 1 0) 0x3D h)
+
+  pub marked-both : getD bytes 0 0 ≡ 0x3C → getD bytes 1 0 ≡ 0x3D → marked bytes ≡ true
+  marked-both e h = rw (eq-eqb (getD bytes 0 0) 0x3C e, eq-eqb (getD bytes 1 0) 0x3D h)

@@ -1,0 +1,105 @@
+// The parts of a message: its tests one by one, and its fields read from bytes and put into a buffer.
+ghost use mathlib.Core.Path.{_≡_};
+ghost use Prim.Native.Nat.{_+_, _≤_, _<_};
+ghost use lib.Dec.{eqb};
+ghost use lib.ListN.{length, take, drop};
+ghost use Rattle.ground.specs.Words.{number, bytesOf, wordAt};
+ghost use Rattle.ground.specs.Putting.{put};
+ghost use Rattle.crc.specs.Meaning.{checksumOf};
+ghost use Rattle.message.specs.Meaning.{dataSize, sayable};
+
+// How many data bytes a size tag stands for.
+pub(crate) fn data_size(tag: u8) -> usize
+    ensures { λ r. ⌜ (r ≡ dataSize tag) × (r ≤ 8) ⌝ }
+{
+    match tag {
+        0 => 0,
+        1 => 2,
+        2 => 4,
+        _ => 8,
+    }
+}
+
+// Whether an address, a tag and a value are within the rule.
+pub(crate) fn sayable_as(address: u16, tag: u8, value: u64) -> bool
+    ensures { λ r. ⌜ r ≡ sayable address tag value ⌝ }
+{
+    if 0x3FFF < address {
+        return false;
+    }
+    match tag {
+        0 => value < 1,
+        1 => value < 65536,
+        2 => value < 4294967296,
+        3 => true,
+        _ => false,
+    }
+}
+
+// Whether the checksum after so many data bytes is that of all before it.
+pub(crate) fn checked_front(bytes: &[u8], size: usize) -> bool
+    requires { ⌜ size + 6 ≤ length (now bytes) ⌝ }
+    ensures { λ r. ⌜ r ≡ eqb (checksumOf (take (size + 4) (now (bytes .entry)))) (wordAt (now (bytes .entry)) (size + 4)) ⌝ }
+{
+    let end = size + 4;
+    crc::checksum(&bytes[..end]) == word_at(bytes, end)
+}
+
+// The 16-bit word at a place.
+pub(crate) fn word_at(bytes: &[u8], at: usize) -> u16
+    requires { ⌜ at + 2 ≤ length (now bytes) ⌝ }
+    ensures { λ r. ⌜ (r ≡ wordAt (now (bytes .entry)) at) × (r < 65536) ⌝ }
+{
+    wide(bytes[at]) * 256 + wide(bytes[at + 1])
+}
+
+// A byte as a word.
+fn wide(x: u8) -> u16
+    ensures { λ r. ⌜ (r ≡ x) × (r < 256) ⌝ }
+{
+    x as u16
+}
+
+// The number that up to eight bytes from a place on mean.
+pub(crate) fn number_at(bytes: &[u8], at: usize, count: usize) -> u64
+    requires { ⌜ (at + count ≤ length (now bytes)) × (count ≤ 8) ⌝ }
+    ensures { λ r. ⌜ r ≡ number (take count (drop at (now (bytes .entry)))) ⌝ }
+{
+    let mut value: u64 = 0;
+    let mut i = 0;
+    while i < count {
+        value = value * 256 + long(bytes[at + i]);
+        i += 1;
+    }
+    value
+}
+
+// A byte as a value.
+fn long(x: u8) -> u64
+    ensures { λ r. ⌜ (r ≡ x) × (r < 256) ⌝ }
+{
+    x as u64
+}
+
+// Puts a 16-bit word at a place.
+pub(crate) fn put_word(buffer: &mut [u8], at: usize, word: u16)
+    requires { ⌜ at + 2 ≤ length (now buffer) ⌝ }
+    ensures { λ _. ⌜ now (buffer .exit) ≡ put (now (buffer .entry)) at (bytesOf 2 word) ⌝ }
+{
+    buffer[at] = (word / 256) as u8;
+    buffer[at + 1] = (word % 256) as u8;
+}
+
+// Puts the bytes of a value at a place, the last of them first.
+pub(crate) fn put_number(buffer: &mut [u8], at: usize, count: usize, value: u64)
+    requires { ⌜ at + count ≤ length (now buffer) ⌝ }
+    ensures { λ _. ⌜ now (buffer .exit) ≡ put (now (buffer .entry)) at (bytesOf count value) ⌝ }
+{
+    let mut left = count;
+    let mut rest = value;
+    while 0 < left {
+        left -= 1;
+        buffer[at + left] = (rest % 256) as u8;
+        rest /= 256;
+    }
+}
