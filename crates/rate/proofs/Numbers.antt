@@ -7,20 +7,16 @@ use mathlib.Core.List.{List, [], _∷_}
 use Prim.Native.Nat.{ℕ, _≤_}
 use native.Mathlib.Omega.{arith}
 use lib.IntN.{ℤ, pos, negsuc, natAbs}
-use lib.Signed.{ltZ, nonNeg}
-use lib.Dec.{T}
-use borrow.Author.Tests.{ltb-true}
 use denote.Enum.Declared.{tagOf}
 use types.Run.{OneOf}
 use mir.Syntax.{w32}
-use mir.Val.{toZ, ofZ, SFits, Fits}
+use mir.Val.{toZ, ofZ, SFits}
 use mir.ValLaws.{toZ-ofZ}
 use Rattle.ground.specs.Paper.{accepted, refused}
-use Rattle.code.specs.Meaning.{Shape, shapeOf, shapeOfNumber, magnitude, value, sign, parseAt, Taken, unpackMeans, largest}
-use Rattle.code.specs.Shapes.{false-true}
+use Rattle.code.specs.Meaning.{signOf, Shape, shapeOf, shapeOfNumber, magnitude, value, sign, parseAt, Taken, unpackMeans, largest}
 use Rattle.code.specs.Magnitudes.{shape-of-value, magnitude-fits, magnitude-positive, sign-bit, signed-back}
 use Rattle.code.specs.Answers.{unpackedPaper}
-use Rattle.code.specs.Promise.{UnpackPromise}
+use Rattle.code.specs.Promise.{UnpackPromise, SignPromise}
 use Rattle.code.proofs.Unpacked
 use Rattle.code.specs.declared.Unpacked.{Unpacked}
 use Rattle.code.specs.declared.Unpacked.the-variants as U
@@ -86,17 +82,17 @@ refusal-read bytes at d r why p n e =
     go U.RedundantZero n = refl
     go U.RunTooLong n = refl
 
--- a number under 0
-below : (v : ℤ) → ltZ v (pos 0) ≡ true → negative v ≡ true
-below (pos n) t = absurd (omega (arith, ltb-true n 0 t))
-below (negsuc n) t = refl
+-- a number with the sign bit 1 is negative
+below : (v : ℤ) → signOf v ≡ 1 → negative v ≡ true
+below (pos n) e = absurd (omega arith)
+below (negsuc n) e = refl
 
--- a number that is not
-above : (v : ℤ) → ltZ v (pos 0) ≡ false → v ≡ pos (natAbs v)
-above (pos n) t = refl
-above (negsuc n) t = absurd (false-true (sym t))
+-- any other is a count
+above : (v : ℤ) → (signOf v ≡ 1 → ⊥) → v ≡ pos (natAbs v)
+above (pos n) h = refl
+above (negsuc n) h = absurd (h refl)
 
-module _ (bytes : List ℕ) (at d : ℕ) {r : Unpacked} (v : ℤ) (next : ℕ) (p : UnpackPromise bytes at d r) (e : r ≡ U.Number v next) where
+module _ (bytes : List ℕ) (at d : ℕ) {r : Unpacked} (v : ℤ) (next s : ℕ) (p : UnpackPromise bytes at d r) (e : r ≡ U.Number v next) (q : SignPromise (toZ w32 (ofZ w32 v)) s) where
   -- the number that was read, as the definitions have it
   means : unpackMeans bytes at d ≡ accepted (record { value = v; next = next })
   means = sym (p .answer) ∙ ap unpackedPaper e
@@ -109,36 +105,28 @@ module _ (bytes : List ℕ) (at d : ℕ) {r : Unpacked} (v : ℤ) (next : ℕ) (
   back = toZ-ofZ w32 v (number-fits bytes at d (record { value = v; next = next }) was-read)
 
   -- a negative number has no reading
-  pub negative-read : ltZ (toZ w32 (ofZ w32 v)) (pos 0) ≡ true → refused 8 ≡ readingMeans bytes at d
+  pub negative-read : s ≡ 1 → refused 8 ≡ readingMeans bytes at d
   negative-read t =
-      let minus : negative v ≡ true = below v (subst (λ (z : ℤ). ltZ z (pos 0) ≡ true) back t) in
+      let minus : negative v ≡ true = below v (ap signOf (sym back) ∙ sym (q .answer) ∙ t) in
       let same : numberReads d (codeRead (parseAt bytes at d)) (record { value = v; next = next }) ≡ refused 8 = rw minus in
       sym (ap (onward (numberReads d (codeRead (parseAt bytes at d)))) means ∙ same)
 
-  module _ (t : ltZ (toZ w32 (ofZ w32 v)) (pos 0) ≡ false) where
-    plus : v ≡ pos (natAbs v)
-    plus = above v (subst (λ (z : ℤ). ltZ z (pos 0) ≡ false) back t)
+  module _ (t : s ≡ 1 → ⊥) (m : ℕ) (f : m ≡ natAbs (toZ w32 (ofZ w32 v))) where
+    plus : v ≡ pos m
+    plus = above v (λ z. t (q .answer ∙ ap signOf back ∙ z)) ∙ ap pos (sym (f ∙ ap natAbs back))
 
-    found-natural : Natural bytes at d (natAbs v)
-    found-natural =
-        natural bytes at d (natAbs v) next (subst (λ (z : ℤ). WasRead bytes at d (record { value = z; next = next })) plus was-read)
+    found-natural : Natural bytes at d m
+    found-natural = natural bytes at d m next (subst (λ (z : ℤ). WasRead bytes at d (record { value = z; next = next })) plus was-read)
 
-    -- any other number is a magnitude
-    pub natural-cast : T (nonNeg (toZ w32 (ofZ w32 v))) × Fits w32 (natAbs (toZ w32 (ofZ w32 v)))
-    natural-cast =
-        let small = found-natural .decoded .fits in
-        subst (λ (z : ℤ). T (nonNeg z) × Fits w32 (natAbs z)) (sym (back ∙ plus)) (tt, record { fits = omega (arith, small) })
-
-    -- one that a code decodes to
-    pub natural-decoded : Decoded d (natAbs (toZ w32 (ofZ w32 v)))
-    natural-decoded = subst (λ (z : ℤ). Decoded d (natAbs z)) (sym back) (found-natural .decoded)
+    -- any other number is a magnitude that a code decodes to
+    pub natural-decoded : Decoded d m
+    natural-decoded = found-natural .decoded
 
     -- and is read as its code
-    pub natural-read : (reading : Reading) → reading ≡ readingOf d (shapeOf d 0 (natAbs (toZ w32 (ofZ w32 v))))
+    pub natural-read : (reading : Reading) → reading ≡ readingOf d (shapeOf d 0 m)
         → accepted (record { reading = reading; next = next }) ≡ readingMeans bytes at d
-    natural-read reading q =
-        let same : reading ≡ readingOf d (codeRead (parseAt bytes at d)) =
-        q ∙ ap (λ (z : ℤ). readingOf d (shapeOf d 0 (natAbs z))) back ∙ ap (readingOf d) (found-natural .shape) in
+    natural-read reading g =
+        let same : reading ≡ readingOf d (codeRead (parseAt bytes at d)) = g ∙ ap (readingOf d) (found-natural .shape) in
         let not-minus : negative v ≡ false = ap negative plus in
         let as-number : numberReads d (codeRead (parseAt bytes at d)) (record { value = v; next = next })
         ≡ accepted (record { reading = readingOf d (codeRead (parseAt bytes at d)); next = next }) = rw not-minus in

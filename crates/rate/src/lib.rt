@@ -42,11 +42,11 @@ pub fn reading(bytes: &[u8], at: u64, drop: u8) -> Counted
     let Unpacked::Number { value, next } = answer else {
         return Counted::Refused(handed(answer));
     };
-    if value < 0 {
+    if code::sign(value) == 1 {
         return Counted::Refused(Refusal::OutsideRule);
     }
     Counted::Counts {
-        reading: band::counts(value as u32, drop as u32),
+        reading: band::counts(code::magnitude(value), drop as u32),
         next,
     }
 }

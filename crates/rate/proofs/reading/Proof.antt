@@ -2,7 +2,7 @@
 -- Assumes nothing.
 use denote.Ref.{now}
 use borrow.Author.Needs.{needs}
-use Rattle.rate.proofs.Numbers.{refusal-read, negative-read, natural-cast, natural-decoded, natural-read}
+use Rattle.rate.proofs.Numbers.{refusal-read, negative-read, natural-decoded, natural-read}
 use Rattle.rate.proofs.reading.Statement.{statement}
 use Rattle.rate.proofs.reading.Tie as tie
 
@@ -22,32 +22,32 @@ returns c =
       answer = refusal-read (now (a .bytes)) (a .at) (a .drop) _ _ (c .before .before .unpack .ensures) (c .before .match .keys2) (c .handed .ensures);
     }
 
+sign-requires : tie.Need-sign-requires
+sign-requires c κs = search needs
+
 returns-2 : tie.Need-returns-2
 returns-2 c =
-    let a = c .before .before .before .before .before .before .args in
-    let n = c .before .before .answer .given in
-    record {
-      answer = negative-read (now (a .bytes)) (a .at) (a .drop) (n .0 .0) (n .0 .1 .0) (c .before .before .before .before .unpack .ensures) (n .1) (c .if1 .taken);
-    }
-
-cast-counts : tie.Need-cast-counts
-cast-counts c =
-    let a = c .before .before .before .before .before .before .args in
-    let n = c .before .before .answer .given in
-    natural-cast (now (a .bytes)) (a .at) (a .drop) (n .0 .0) (n .0 .1 .0) (c .before .before .before .before .unpack .ensures) (n .1) (c .if1 .left)
-
-counts-requires : tie.Need-counts-requires
-counts-requires c κs =
-    let a = c .before .before .before .before .before .before .args in
-    let n = c .before .before .answer .given in
-    natural-decoded (now (a .bytes)) (a .at) (a .drop) (n .0 .0) (n .0 .1 .0) (c .before .before .before .before .unpack .ensures) (n .1) (c .if1 .left)
-
-returns-3 : tie.Need-returns-3
-returns-3 c =
     let a = c .before .before .before .before .before .before .before .args in
     let n = c .before .before .before .answer .given in
     record {
-      answer = natural-read (now (a .bytes)) (a .at) (a .drop) (n .0 .0) (n .0 .1 .0) (c .before .before .before .before .before .unpack .ensures) (n .1) (c .before .if1 .left) _ (c .counts .ensures);
+      answer = negative-read (now (a .bytes)) (a .at) (a .drop) (n .0 .0) (n .0 .1 .0) _ (c .before .before .before .before .before .unpack .ensures) (n .1) (c .before .sign .ensures) (c .if1 .taken);
+    }
+
+magnitude-requires : tie.Need-magnitude-requires
+magnitude-requires c κs = search needs
+
+counts-requires : tie.Need-counts-requires
+counts-requires c κs =
+    let a = c .before .before .before .before .before .before .before .before .args in
+    let n = c .before .before .before .before .answer .given in
+    natural-decoded (now (a .bytes)) (a .at) (a .drop) (n .0 .0) (n .0 .1 .0) _ (c .before .before .before .before .before .before .unpack .ensures) (n .1) (c .before .before .sign .ensures) (c .before .if1 .left) _ (c .magnitude .ensures)
+
+returns-3 : tie.Need-returns-3
+returns-3 c =
+    let a = c .before .before .before .before .before .before .before .before .before .args in
+    let n = c .before .before .before .before .before .answer .given in
+    record {
+      answer = natural-read (now (a .bytes)) (a .at) (a .drop) (n .0 .0) (n .0 .1 .0) _ (c .before .before .before .before .before .before .before .unpack .ensures) (n .1) (c .before .before .before .sign .ensures) (c .before .before .if1 .left) _ (c .before .magnitude .ensures) _ (c .counts .ensures);
     }
 
 pub reading-spec : {M : Type 1} → statement M
@@ -58,7 +58,8 @@ reading-spec =
     enum-known-answer
     handed-requires
     returns
+    sign-requires
     returns-2
-    cast-counts
+    magnitude-requires
     counts-requires
     returns-3)
