@@ -31,6 +31,7 @@ record Natural (bytes : List ℕ) (at d m : ℕ) : Type 0 where
   shape : shapeOf d 0 m ≡ codeRead (parseAt bytes at d)
   decoded : Decoded d m
 
+-- a count that was read is so
 natural : (bytes : List ℕ) (at d m next : ℕ) → WasRead bytes at d (record { value = pos m; next = next }) → Natural bytes at d m
 natural bytes at d m next r =
     let read : Shape = codeRead (parseAt bytes at d) in
@@ -97,6 +98,7 @@ module _ (bytes : List ℕ) (at d : ℕ) {r : Unpacked} (v : ℤ) (next s : ℕ)
   means : unpackMeans bytes at d ≡ accepted (record { value = v; next = next })
   means = sym (p .answer) ∙ ap unpackedPaper e
 
+  -- and that it was read
   was-read : WasRead bytes at d (record { value = v; next = next })
   was-read = was-accepted bytes at d (record { value = v; next = next }) means
 
@@ -112,9 +114,11 @@ module _ (bytes : List ℕ) (at d : ℕ) {r : Unpacked} (v : ℤ) (next s : ℕ)
       sym (ap (onward (numberReads d (codeRead (parseAt bytes at d)))) means ∙ same)
 
   module _ (t : s ≡ 1 → ⊥) (m : ℕ) (f : m ≡ natAbs (toZ w32 (ofZ w32 v))) where
+    -- the number is the magnitude
     plus : v ≡ pos m
     plus = above v (λ z. t (q .answer ∙ ap signOf back ∙ z)) ∙ ap pos (sym (f ∙ ap natAbs back))
 
+    -- which a code decodes to
     found-natural : Natural bytes at d m
     found-natural = natural bytes at d m next (subst (λ (z : ℤ). WasRead bytes at d (record { value = z; next = next })) plus was-read)
 

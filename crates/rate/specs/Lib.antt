@@ -7,4 +7,5 @@ pub mod Readings
 pub mod Bands
 pub mod Packed
 pub mod Lossless
+pub mod Quotients
 pub mod Cases
