@@ -4,12 +4,15 @@
 //!   reference feed           the blocks that the program `vectors` is given
 //!   reference answers        reads such blocks, and prints the line that answers each
 //!   reference checksum       reads bytes, and prints their checksum
+//!   reference script         the script of calls that the program `soak` plays
+//!   reference ledger         what `soak` must print
 
 mod blocks;
 mod cadence;
 mod checksum;
 mod code;
 mod format;
+mod histogram;
 mod message;
 mod packet;
 mod random;
@@ -71,12 +74,14 @@ fn main() {
                 }
             }
         }
+        "script" => out.write_all(histogram::script().0.as_bytes()).unwrap(),
+        "ledger" => out.write_all(histogram::script().1.as_bytes()).unwrap(),
         "checksum" => {
             std::io::stdin().lock().read_to_end(&mut given).unwrap();
             writeln!(out, "{:04x}", checksum::of(&given)).unwrap();
         }
         _ => {
-            eprintln!("usage: reference feed | answers | checksum");
+            eprintln!("usage: reference feed | answers | checksum | script | ledger");
             std::process::exit(2);
         }
     }

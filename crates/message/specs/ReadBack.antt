@@ -1,19 +1,22 @@
 -- "A written .. message reads back as itself": with used equal to written, whatever follows.
 -- Assumes nothing.
 use mathlib.Core.Path.{_≡_, refl, sym, ap, ap₂, _∙_, subst}
-use mathlib.Core.Bool.{true, false, not}
+use mathlib.Core.Bool.{Bool, true, false, not}
 use mathlib.Core.List.{List, [], _∷_, _++_, append-assoc}
 use Prim.Native.Nat.{ℕ, zero, suc, _+_, _*_, _/_, _%_, _^_, _<_, _≤_}
 use native.Mathlib.Omega.{arith}
-use borrow.Author.Tests.{eq-eqb}
+use borrow.Author.Tests.{eq-eqb, leb-true, ltb-true}
+use lib.Dec.{ltb}
 use lib.ListN.{length, take, drop, length-append}
 use lib.Seq.{take-at, drop-at}
-use Rattle.ground.specs.Paper.{accepted}
+use Rattle.ground.specs.Choice.{pick}
+use Rattle.ground.specs.Questions.{both-hold}
+use Rattle.ground.specs.Paper.{Paper, accepted, refused}
 use Rattle.ground.specs.Words.{number, bytesOf, wordAt, number-bytesOf, length-bytesOf}
 use Rattle.crc.specs.Meaning.{checksumOf}
 use Rattle.crc.specs.Laws.{checksum-lt}
 use Rattle.message.specs.Laws.{read-so}
-use Rattle.message.specs.Meaning.{dataSize, tagWord, covered, messageOf, tagAt, addressAt, sizeAt, readMeans}
+use Rattle.message.specs.Meaning.{dataSize, tagWord, covered, messageOf, tagAt, addressAt, sizeAt, readMeans, sayable, writeMeans, writeLeaves}
 
 -- a written message and whatever follows it
 abbrev pub written : ℕ → ℕ → ℕ → List ℕ → List ℕ
@@ -78,3 +81,33 @@ module _ (address tag value : ℕ) (rest : List ℕ) (a : address ≤ 0x3FFF) (t
       (eq-eqb (checksumOf (take (dataSize tag + 4) w)) (wordAt w (dataSize tag + 4)) (ap checksumOf summed ∙ sym sum-word)))
       ∙ ap (λ (x : ℕ). accepted (record { address = x; tag = tagAt w; value = number (take (dataSize tag) (drop 4 w)); used = dataSize tag + 6 })) address-back
       ∙ ap₂ (λ (x y : ℕ). accepted (record { address = address; tag = x; value = y; used = dataSize tag + 6 })) tag-back value-back
+
+-- writing was accepted: all was within the rule, and the buffer holds the message and what lay past it
+pub record Accepted (buffer : List ℕ) (address tag value n : ℕ) : Type 0 where
+  pub near : address ≤ 0x3FFF
+  pub known : tag ≤ 3
+  pub bits : value < 256 ^ dataSize tag
+  pub count : n ≡ dataSize tag + 6
+  pub leaves : writeLeaves buffer address tag value ≡ written address tag value (drop (dataSize tag + 6) buffer)
+
+-- what an accepted answer of writing says
+pub write-accepted : (buffer : List ℕ) (address tag value : ℕ) {n : ℕ} → writeMeans buffer address tag value ≡ accepted n
+    → Accepted buffer address tag value n
+unfolding writeMeans writeLeaves
+write-accepted buffer address tag value {n} =
+    go (sayable address tag value) (ltb (length buffer) (dataSize tag + 6)) refl refl
+  where
+    go : (s t : Bool) → sayable address tag value ≡ s → ltb (length buffer) (dataSize tag + 6) ≡ t
+        → writeMeans buffer address tag value ≡ accepted n → Accepted buffer address tag value n
+    go false t e f a = let z : _≡_ {A = ℕ} 0 1 = cc (rw e at a) in absurd (omega arith)
+    go true true e f a = let z : _≡_ {A = ℕ} 0 1 = cc (rw (e, f) at a) in absurd (omega arith)
+    go true false e f a =
+        let first = both-hold e in
+        let second = both-hold (first .1) in
+        record {
+          near = leb-true _ _ (first .0);
+          known = leb-true _ _ (second .0);
+          bits = ltb-true _ _ (second .1);
+          count = cc (rw (e, f) at a);
+          leaves = rw (e, f);
+        }

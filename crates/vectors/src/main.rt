@@ -3,6 +3,9 @@
 ghost use mathlib.Core.Path.{_≡_};
 ghost use lib.ListN.{length};
 
+mod cadences;
+mod codes;
+mod formats;
 mod messages;
 mod packets;
 mod say;
@@ -55,6 +58,12 @@ fn answer(block: &[u8]) {
         b'w' => packets::write(given),
         b'r' => messages::read(given),
         b'm' => messages::write(given),
+        b'p' => codes::pack(given),
+        b'u' => codes::unpack(given),
+        b'P' => codes::packs(given),
+        b'U' => codes::unpacks(given),
+        b'x' => formats::call(given),
+        b't' => cadences::call(given),
         _ => (),
     }
     say::end();

@@ -44,3 +44,84 @@ pub fn fill(bytes: &mut [u8], filling: u8) {
         i += 1;
     }
 }
+
+// Copies bytes to the front of a room, as many as it holds.
+pub fn copy(room: &mut [u8], bytes: &[u8]) {
+    let mut i = 0;
+    while i < bytes.len() {
+        put(room, i, 0, bytes[i]);
+        i += 1;
+    }
+}
+
+// The signed number of 32 bits.
+pub fn number(bits: u64) -> i32 {
+    if bits < 2147483648 {
+        return bits as i32;
+    }
+    if bits < 4294967296 {
+        let below = (4294967295 - bits) as i32;
+        return -1 - below;
+    }
+    0
+}
+
+// The magnitude of a signed number.
+pub fn magnitude(v: i32) -> u32 {
+    let wide = v as i64;
+    if wide < 0 {
+        (0 - wide) as u32
+    } else {
+        wide as u32
+    }
+}
+
+// A signed number, in decimal.
+pub fn signed(v: i32) {
+    if v < 0 {
+        io::write_all(STDOUT_FILENO, b"-");
+    }
+    first(magnitude(v) as u64);
+}
+
+// The 32 bits of a signed number.
+pub fn bits(v: i32) -> u64 {
+    let size = magnitude(v) as u64;
+    if v < 0 && 0 < size {
+        4294967296 - size
+    } else {
+        size
+    }
+}
+
+// Puts a number's eight bytes into a log from a place on, and answers the place after them.
+pub fn log(room: &mut [u8], at: usize, n: u64) -> usize {
+    let mut left = 8;
+    let mut rest = n;
+    while 0 < left {
+        left -= 1;
+        put(room, at, left, (rest % 256) as u8);
+        rest /= 256;
+    }
+    if at < 1048576 { at + 8 } else { at }
+}
+
+// Puts a byte into a log, where there is room.
+fn put(room: &mut [u8], at: usize, offset: usize, byte: u8) {
+    if at < room.len() {
+        if offset < room.len() - at {
+            room[at + offset] = byte;
+        }
+    }
+}
+
+// Logs each byte as a number.
+pub fn log_bytes(room: &mut [u8], at: usize, bytes: &[u8]) -> usize {
+    let mut end = at;
+    let mut i = 0;
+    while i < bytes.len() {
+        end = log(room, end, feed::byte(bytes, i));
+        i += 1;
+    }
+    end
+}

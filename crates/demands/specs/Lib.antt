@@ -1,0 +1,4 @@
+pub mod StarredCases
+pub mod ReadBack
+pub mod SameBits
+pub mod Ledger

@@ -1,0 +1,94 @@
+-- Sequences of calls on one opened memory, and the ledger that they leave: what demand 3 speaks of.
+-- Assumes nothing.
+use mathlib.Core.Bool.{Bool, true, false}
+use mathlib.Core.Path.{_≡_, refl}
+use mathlib.Core.List.{List, [], _∷_, _++_}
+use Prim.Native.Nat.{ℕ, _+_}
+use Rattle.ground.specs.Choice.{pick}
+use Rattle.ground.specs.Paper.{Paper, accepted, refused, refusedWith}
+use Rattle.histogram.specs.Meaning.{Outcome, Value, done, new, again, incrementMeans, flipMeans, askMeans, openLeaves}
+use Rattle.histogram.specs.declared.Window.{Window}
+use Rattle.histogram.specs.declared.State.{State}
+
+-- a call on an opened memory
+pub data Call : Type 0 where
+  increment : ℕ → Call
+  flip : Call
+  ask : ℕ → Window → Call
+
+-- what a call means on a memory and a state
+abbrev pub callMeans : List ℕ → State → Call → Outcome
+callMeans m s (increment address) = incrementMeans m s address
+callMeans m s flip = flipMeans m s
+callMeans m s (ask number w) = askMeans m s number w
+
+-- what an answered call adds to the accepted increments
+abbrev pub acceptedBy : Call → Paper Value → ℕ
+acceptedBy (increment address) (accepted v) = 1
+acceptedBy (increment address) (refused n) = 0
+acceptedBy (increment address) (refusedWith n x) = 0
+acceptedBy flip p = 0
+acceptedBy (ask number w) p = 0
+
+-- what an answered call adds to the counts cleared and handed out: the sum of a new clearing ask
+abbrev pub clearedBy : Call → Paper Value → ℕ
+clearedBy (increment address) p = 0
+clearedBy flip p = 0
+clearedBy (ask number w) (accepted done) = 0
+clearedBy (ask number w) (accepted (new sum)) = pick (w .clear) sum 0
+clearedBy (ask number w) (accepted (again sum)) = 0
+clearedBy (ask number w) (refused n) = 0
+clearedBy (ask number w) (refusedWith n x) = 0
+
+-- whether an answer is that of a new ask
+abbrev pub isNew : Paper Value → Bool
+isNew (accepted done) = false
+isNew (accepted (new sum)) = true
+isNew (accepted (again sum)) = false
+isNew (refused n) = false
+isNew (refusedWith n x) = false
+
+-- the counts that a memory holds, both pages together
+abbrev pub total : List ℕ → ℕ
+total [] = 0
+total (word ∷ words) = word + total words
+
+-- memory and state, with the counts cleared and the increments accepted since opening
+pub record Ledger : Type 0 where
+  pub memory : List ℕ
+  pub state : State
+  pub cleared : ℕ
+  pub increments : ℕ
+
+-- a freshly opened memory: nothing cleared, nothing accepted
+abbrev pub opening : List ℕ → State → Ledger
+opening m s = record { memory = openLeaves m; state = s; cleared = 0; increments = 0 }
+
+-- what a call answers on a ledger's memory and state
+abbrev pub answered : Ledger → Call → Outcome
+answered l c = callMeans (l .memory) (l .state) c
+
+-- one call
+abbrev pub step : Ledger → Call → Ledger
+step l c =
+    record {
+      memory = answered l c .memory;
+      state = answered l c .state;
+      cleared = l .cleared + clearedBy c (answered l c .answer);
+      increments = l .increments + acceptedBy c (answered l c .answer);
+    }
+
+-- a sequence of calls
+abbrev pub run : Ledger → List Call → Ledger
+run l [] = l
+run l (c ∷ cs) = run (step l c) cs
+
+-- no call of a sequence is accepted as a new ask
+abbrev pub NoNew : Ledger → List Call → Type 0
+NoNew l [] = Unit {0}
+NoNew l (c ∷ cs) = (isNew (answered l c .answer) ≡ false) × NoNew (step l c) cs
+
+-- to run two sequences joined is to run the first and then the second
+pub run-append : (l : Ledger) (cs ds : List Call) → run l (cs ++ ds) ≡ run (run l cs) ds
+run-append l [] ds = refl
+run-append l (c ∷ cs) ds = run-append (step l c) cs ds

@@ -1,0 +1,342 @@
+// Histogram memory and numbered asks: counters in two pages of lent words, a state by value, and sums asked for by number.
+mod layout;
+mod turn;
+mod walk;
+
+ghost use mathlib.Core.Bool.{not};
+ghost use mathlib.Core.Path.{_≡_};
+ghost use lib.ListN.{length, replicate};
+ghost use Rattle.ground.specs.Paper.{numberOf};
+ghost use Rattle.histogram.specs.Meaning.{sizedOf, fittingOf, exchanged, keeping, newMeans};
+ghost use Rattle.histogram.specs.Answers.{openedPaper, incrementPaper, flipPaper, askPaper};
+ghost use Rattle.histogram.specs.Promise.{OpenPromise, IncrementPromise, FlipPromise, AskPromise, askedOf};
+use layout::place;
+use turn::Turn;
+use turn::turn_of;
+use walk::last_cell;
+use walk::sound_rows;
+use walk::walk_rows;
+
+// A window of counters: cells in rows, and whether an ask of it clears them.
+pub struct Window {
+    pub address: u32,
+    pub xsize: u8,
+    pub ysize: u8,
+    pub ystride: u16,
+    pub clear: bool,
+}
+
+// What is kept of the last accepted ask.
+pub enum Kept {
+    Nothing,
+    Last {
+        number: u16,
+        window: Window,
+        sum: u64,
+    },
+}
+
+// The state that goes into each call and comes back: the words of its memory (2N), whether the second page is active, and what is kept.
+pub struct State {
+    pub words: usize,
+    pub second: bool,
+    pub kept: Kept,
+}
+
+// What opening answers.
+pub enum Opened {
+    Ready(State),
+    WrongMemory,
+}
+
+// What an increment answers.
+pub enum IncrementAnswer {
+    Counted,
+    WrongMemory,
+    WrongAddress,
+    Full,
+    AboveFull,
+}
+
+// An increment's answer, with the state.
+pub struct Incremented {
+    pub answer: IncrementAnswer,
+    pub state: State,
+}
+
+// What a flip answers.
+pub enum FlipAnswer {
+    Exchanged,
+    WrongMemory,
+}
+
+// A flip's answer, with the state.
+pub struct Flipped {
+    pub answer: FlipAnswer,
+    pub state: State,
+}
+
+// What an ask answers: its sum, new or again, or why not.
+pub enum AskAnswer {
+    New { sum: u64 },
+    Again { sum: u64 },
+    WrongMemory,
+    WrongCell,
+    AboveFull,
+    OutOfTurn,
+    OtherWindow,
+}
+
+// An ask's answer, with the state.
+pub struct Asked {
+    pub answer: AskAnswer,
+    pub state: State,
+}
+
+// The count at which a word is full and stays.
+pub const FULL: u32 = 67108863;
+
+// Takes 2N words, sets them all to 0, and answers a state with the first page active and nothing kept.
+pub fn open(memory: &mut [u32]) -> Opened
+    ensures { λ r. ⌜ OpenPromise (now (memory .entry)) r (now (memory .exit)) ⌝ }
+{
+    let words = memory.len();
+    if !sized(words) {
+        return Opened::WrongMemory;
+    }
+    clear_all(memory);
+    Opened::Ready(State {
+        words,
+        second: false,
+        kept: Kept::Nothing,
+    })
+}
+
+// Adds 1 to the word at an address of the active page.
+pub fn increment(memory: &mut [u32], state: State, address: u32) -> Incremented
+    ensures { λ r. ⌜ IncrementPromise (now (memory .entry)) state address r (now (memory .exit)) ⌝ }
+{
+    let words = memory.len();
+    if !fitting(words, state) {
+        return Incremented {
+            answer: IncrementAnswer::WrongMemory,
+            state,
+        };
+    }
+    if words / 2 <= address as usize {
+        return Incremented {
+            answer: IncrementAnswer::WrongAddress,
+            state,
+        };
+    }
+    let at = place(words, active_page(state), address as usize);
+    let word = memory[at];
+    if FULL < word {
+        return Incremented {
+            answer: IncrementAnswer::AboveFull,
+            state,
+        };
+    }
+    if word == FULL {
+        return Incremented {
+            answer: IncrementAnswer::Full,
+            state,
+        };
+    }
+    memory[at] = word + 1;
+    Incremented {
+        answer: IncrementAnswer::Counted,
+        state,
+    }
+}
+
+// Exchanges the active page and the idle one.
+pub fn flip(memory: &[u32], state: State) -> Flipped
+    ensures { λ r. ⌜ FlipPromise (now (memory .entry)) state r ⌝ }
+{
+    if !fitting(memory.len(), state) {
+        return Flipped {
+            answer: FlipAnswer::WrongMemory,
+            state,
+        };
+    }
+    Flipped {
+        answer: FlipAnswer::Exchanged,
+        state: exchange(state),
+    }
+}
+
+// Sums a window of the idle page, once for each number: the same number and window again answers the sum that was kept.
+pub fn ask(memory: &mut [u32], state: State, number: u16, window: Window) -> Asked
+    ensures { λ r. ⌜ AskPromise (now (memory .entry)) state number window r (now (memory .exit)) ⌝ }
+{
+    if !fitting(memory.len(), state) {
+        return not_asked(AskAnswer::WrongMemory, state);
+    }
+    let kept = state.kept;
+    let turn = turn_of(kept, number, window);
+    match turn {
+        Turn::NewAsk => new_ask(memory, state, number, window),
+        Turn::LastAsk(sum) => again(state, sum),
+        Turn::OtherWindow => not_asked(AskAnswer::OtherWindow, state),
+        Turn::OutOfTurn => not_asked(AskAnswer::OutOfTurn, state),
+    }
+}
+
+// Document 01's number of what opening answers, 0 where it is accepted.
+pub fn open_number(a: Opened) -> u8
+    ensures { λ r. ⌜ r ≡ numberOf (openedPaper a) ⌝ }
+{
+    match a {
+        Opened::Ready(_) => 0,
+        Opened::WrongMemory => 13,
+    }
+}
+
+// Document 01's number of what an increment answers, 0 where it is accepted.
+pub fn increment_number(a: IncrementAnswer) -> u8
+    ensures { λ r. ⌜ r ≡ numberOf (incrementPaper a) ⌝ }
+{
+    match a {
+        IncrementAnswer::Counted => 0,
+        IncrementAnswer::WrongMemory => 13,
+        IncrementAnswer::WrongAddress => 14,
+        IncrementAnswer::Full => 15,
+        IncrementAnswer::AboveFull => 16,
+    }
+}
+
+// Document 01's number of what a flip answers, 0 where it is accepted.
+pub fn flip_number(a: FlipAnswer) -> u8
+    ensures { λ r. ⌜ r ≡ numberOf (flipPaper a) ⌝ }
+{
+    match a {
+        FlipAnswer::Exchanged => 0,
+        FlipAnswer::WrongMemory => 13,
+    }
+}
+
+// Document 01's number of what an ask answers, 0 where it is accepted.
+pub fn ask_number(a: AskAnswer) -> u8
+    ensures { λ r. ⌜ r ≡ numberOf (askPaper a) ⌝ }
+{
+    match a {
+        AskAnswer::New { sum: _ } => 0,
+        AskAnswer::Again { sum: _ } => 0,
+        AskAnswer::WrongMemory => 13,
+        AskAnswer::WrongCell => 14,
+        AskAnswer::AboveFull => 16,
+        AskAnswer::OutOfTurn => 17,
+        AskAnswer::OtherWindow => 18,
+    }
+}
+
+// Whether a memory may have so many words.
+fn sized(words: usize) -> bool
+    ensures { λ r. ⌜ r ≡ sizedOf words ⌝ }
+{
+    if words % 2 != 0 {
+        return false;
+    }
+    if words < 2 {
+        return false;
+    }
+    words <= 524288
+}
+
+// Whether a memory of so many words is one that the state belongs to.
+fn fitting(words: usize, state: State) -> bool
+    ensures { λ r. ⌜ r ≡ fittingOf words state ⌝ }
+{
+    if !sized(words) {
+        return false;
+    }
+    words == state.words
+}
+
+// The active page: whether it is the second.
+fn active_page(state: State) -> bool
+    ensures { λ r. ⌜ r ≡ state .second ⌝ }
+{
+    state.second
+}
+
+// The idle page: whether it is the second.
+fn idle_page(state: State) -> bool
+    ensures { λ r. ⌜ r ≡ not (state .second) ⌝ }
+{
+    !state.second
+}
+
+// The state with active and idle exchanged.
+fn exchange(state: State) -> State
+    ensures { λ r. ⌜ r ≡ exchanged state ⌝ }
+{
+    let kept = state.kept;
+    State {
+        words: state.words,
+        second: !state.second,
+        kept,
+    }
+}
+
+// Sets every word to 0.
+fn clear_all(memory: &mut [u32])
+    ensures { λ r. ⌜ now (memory .exit) ≡ replicate (length (now (memory .entry))) 0 ⌝ }
+{
+    let mut i = 0;
+    while i < memory.len() {
+        memory[i] = 0;
+        i += 1;
+    }
+}
+
+// A new ask: refused, or its window walked and its sum kept.
+fn new_ask(memory: &mut [u32], state: State, number: u16, window: Window) -> Asked
+    ensures { λ r. ⌜ askedOf r (now (memory .exit)) ≡ newMeans (now (memory .entry)) state number window ⌝ }
+{
+    if memory.len() / 2 <= last_cell(window) {
+        return not_asked(AskAnswer::WrongCell, state);
+    }
+    let idle = idle_page(state);
+    if !sound_rows(memory, idle, window) {
+        return not_asked(AskAnswer::AboveFull, state);
+    }
+    let sum = walk_rows(memory, idle, window);
+    Asked {
+        answer: AskAnswer::New { sum },
+        state: keep(state, number, window, sum),
+    }
+}
+
+// A refused ask; the state stays.
+fn not_asked(answer: AskAnswer, state: State) -> Asked
+    ensures { λ r. ⌜ r ≡ record { answer = answer; state = state } ⌝ }
+{
+    Asked { answer, state }
+}
+
+// The kept sum answered again; the state stays.
+fn again(state: State, sum: u64) -> Asked
+    ensures { λ r. ⌜ r ≡ record { answer = AskAnswer.Again sum; state = state } ⌝ }
+{
+    Asked {
+        answer: AskAnswer::Again { sum },
+        state,
+    }
+}
+
+// The state with an accepted ask's number, window and sum kept.
+fn keep(state: State, number: u16, window: Window, sum: u64) -> State
+    ensures { λ r. ⌜ r ≡ keeping state number window sum ⌝ }
+{
+    State {
+        words: state.words,
+        second: state.second,
+        kept: Kept::Last {
+            number,
+            window,
+            sum,
+        },
+    }
+}

@@ -1,0 +1,2 @@
+mod Auditing
+mod Entering

@@ -1,0 +1,36 @@
+-- `soak::lend` meets its contract. A part of as many words as asked for has that many.
+-- Assumes nothing.
+use mathlib.Core.Path.{sym}
+use lib.Seq.{length-take-le}
+use borrow.Author.Needs.{needs}
+use Rattle.soak.proofs.lend.Statement.{statement}
+use Rattle.soak.proofs.lend.Tie as tie
+
+slice-relend-prefix-run : tie.Need-slice-relend-prefix-run
+slice-relend-prefix-run c = search needs
+
+slice-aggregate-run : tie.Need-slice-aggregate-run
+slice-aggregate-run c = sym (length-take-le _ _ (c .before .if1 .taken))
+
+run-requires : tie.Need-run-requires
+run-requires c κs = search needs
+
+same-length : tie.Need-same-length
+same-length c = search needs
+
+returns : tie.Need-returns
+returns c = search needs
+
+returns-2 : tie.Need-returns-2
+returns-2 c = search needs
+
+pub lend-spec : {M : Type 1} → statement M
+lend-spec =
+    tie.close
+    (tie.spec
+    slice-relend-prefix-run
+    slice-aggregate-run
+    run-requires
+    same-length
+    returns
+    returns-2)

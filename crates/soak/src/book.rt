@@ -1,0 +1,146 @@
+// The book: the state, the ledger's two sides and the last accepted ask as the program itself remembers it; and each call entered into it.
+ghost use mathlib.Core.Path.{_≡_};
+ghost use Prim.Native.Nat.{_+_, _≤_, _<_};
+ghost use Rattle.soak.specs.Book.{Holds, countOf, handedOf, rememberedOf};
+use crate::line;
+use histogram::AskAnswer;
+use histogram::IncrementAnswer;
+use histogram::Kept;
+use histogram::State;
+use histogram::Window;
+
+// The state, the counts cleared, the increments accepted, and the last ask accepted as new.
+pub struct Book {
+    pub state: State,
+    pub cleared: u64,
+    pub accepted: u64,
+    pub last: Kept,
+}
+
+// An increment, entered.
+pub fn increment_once(memory: &mut [u32], book: Book, address: u32) -> Book
+    requires { ⌜ (Holds (now memory) book) × (book .accepted < 9223372036854775808) ⌝ }
+    ensures { λ r. ⌜ (Holds (now (memory .exit)) r) × (r .accepted ≤ book .accepted + 1) ⌝ }
+{
+    let current = book.state;
+    let made = histogram::increment(memory, current, address);
+    let answer = made.answer;
+    let state = made.state;
+    line::incremented(address, histogram::increment_number(answer));
+    let accepted = book.accepted + count_of(answer);
+    let last = book.last;
+    Book {
+        state,
+        cleared: book.cleared,
+        accepted,
+        last,
+    }
+}
+
+// A flip, entered.
+pub fn flip_once(memory: &[u32], book: Book) -> Book
+    requires { ⌜ Holds (now memory) book ⌝ }
+    ensures { λ r. ⌜ (Holds (now (memory .entry)) r) × (r .accepted ≡ book .accepted) ⌝ }
+{
+    let current = book.state;
+    let made = histogram::flip(memory, current);
+    let answer = made.answer;
+    let state = made.state;
+    line::flipped(histogram::flip_number(answer));
+    let last = book.last;
+    Book {
+        state,
+        cleared: book.cleared,
+        accepted: book.accepted,
+        last,
+    }
+}
+
+// An ask, entered.
+pub fn ask_once(memory: &mut [u32], book: Book, number: u16, window: Window) -> Book
+    requires { ⌜ (Holds (now memory) book) × (book .accepted < 9223372036854775808) ⌝ }
+    ensures { λ r. ⌜ (Holds (now (memory .exit)) r) × (r .accepted ≡ book .accepted) ⌝ }
+{
+    let current = book.state;
+    let made = histogram::ask(memory, current, number, window);
+    let answer = made.answer;
+    let state = made.state;
+    write_asked(number, answer);
+    let cleared = book.cleared + handed_of(answer, window.clear);
+    let previous = book.last;
+    let last = remembered_of(answer, number, window, previous);
+    Book {
+        state,
+        cleared,
+        accepted: book.accepted,
+        last,
+    }
+}
+
+// What an increment's answer adds to the accepted ones.
+fn count_of(answer: IncrementAnswer) -> u64
+    ensures { λ r. ⌜ (r ≡ countOf answer) × (r ≤ 1) ⌝ }
+{
+    match answer {
+        IncrementAnswer::Counted => 1,
+        IncrementAnswer::WrongMemory => 0,
+        IncrementAnswer::WrongAddress => 0,
+        IncrementAnswer::Full => 0,
+        IncrementAnswer::AboveFull => 0,
+    }
+}
+
+// What an ask's answer adds to the counts cleared.
+fn handed_of(answer: AskAnswer, clear: bool) -> u64
+    ensures { λ r. ⌜ r ≡ handedOf answer clear ⌝ }
+{
+    match answer {
+        AskAnswer::New { sum } => if clear { sum } else { 0 },
+        AskAnswer::Again { sum: _ } => 0,
+        AskAnswer::WrongMemory => 0,
+        AskAnswer::WrongCell => 0,
+        AskAnswer::AboveFull => 0,
+        AskAnswer::OutOfTurn => 0,
+        AskAnswer::OtherWindow => 0,
+    }
+}
+
+// The last ask accepted as new, after an ask's answer.
+fn remembered_of(answer: AskAnswer, number: u16, window: Window, last: Kept) -> Kept
+    ensures { λ r. ⌜ r ≡ rememberedOf answer number window last ⌝ }
+{
+    match answer {
+        AskAnswer::New { sum } => latest(number, window, sum),
+        AskAnswer::Again { sum: _ } => last,
+        AskAnswer::WrongMemory => last,
+        AskAnswer::WrongCell => last,
+        AskAnswer::AboveFull => last,
+        AskAnswer::OutOfTurn => last,
+        AskAnswer::OtherWindow => last,
+    }
+}
+
+// An ask to remember.
+fn latest(number: u16, window: Window, sum: u64) -> Kept
+    ensures { λ r. ⌜ r ≡ Kept.Last number window sum ⌝ }
+{
+    Kept::Last {
+        number,
+        window,
+        sum,
+    }
+}
+
+// The line of an ask.
+fn write_asked(number: u16, answer: AskAnswer) {
+    let refusal = histogram::ask_number(answer);
+    match answer {
+        AskAnswer::New { sum } => line::asked_new(number, sum),
+        AskAnswer::Again { sum } => line::asked_again(number, sum),
+        AskAnswer::WrongMemory => line::not_asked(number, refusal),
+        AskAnswer::WrongCell => line::not_asked(number, refusal),
+        AskAnswer::AboveFull => line::not_asked(number, refusal),
+        AskAnswer::OutOfTurn => line::not_asked(number, refusal),
+        AskAnswer::OtherWindow => line::not_asked(number, refusal),
+    }
+}
