@@ -9,7 +9,7 @@ ghost use Rattle.rate.specs.Meaning.{error, readingOf, rateOf};
 ghost use Rattle.rate.specs.Steps.{Decoded};
 
 // The reading of a decoded magnitude.
-pub fn counts(m: u32, drop: u32) -> Reading
+pub(crate) fn counts(m: u32, drop: u32) -> Reading
     requires { ⌜ Decoded drop m ⌝ }
     ensures { λ r. ⌜ r ≡ readingOf drop (shapeOf drop 0 m) ⌝ }
 {
@@ -21,7 +21,7 @@ pub fn counts(m: u32, drop: u32) -> Reading
 }
 
 // A rate: each edge is divided once by the seconds.
-pub fn divided(reading: Reading, length: u16) -> Rate
+pub(crate) fn divided(reading: Reading, length: u16) -> Rate
     ensures { λ r. ⌜ r ≡ rateOf reading length ⌝ }
 {
     let seconds = length as f64;
