@@ -1,0 +1,11 @@
+pub mod Meaning
+pub mod Answers
+pub mod Promise
+pub mod Steps
+pub mod OneOutcome
+pub mod Readings
+pub mod Bands
+pub mod Packed
+pub mod Lossless
+pub mod Quotients
+pub mod Cases

@@ -1,0 +1,132 @@
+// Readings and rates: a packed count is read as a band of counts, and a rate is formed from the band's edges.
+mod band;
+pub mod record;
+
+use cadence::Length;
+use code::Unpacked;
+use record::Rate;
+use record::Reading;
+ghost use mathlib.Core.Path.{_≡_};
+ghost use Rattle.ground.specs.Paper.{numberOf};
+ghost use Rattle.rate.specs.Meaning.{refusalNumber};
+ghost use Rattle.rate.specs.Answers.{countedPaper, ratedPaper};
+ghost use Rattle.rate.specs.Promise.{ReadingPromise, RatePromise};
+ghost use Rattle.rate.specs.Steps.{refusalOf, refusalIn};
+
+// Why a code has no reading: a drop or a number outside the rule, bits that ran out, a redundant zero, a run too long.
+pub enum Refusal {
+    OutsideRule,
+    RanOut,
+    RedundantZero,
+    RunTooLong,
+}
+
+// What reading counts answers: the reading and the next bit position, or why there is none.
+pub enum Counted {
+    Counts { reading: Reading, next: u64 },
+    Refused(Refusal),
+}
+
+// What forming a rate answers: the rate and the next bit position, why there is no reading, or no such level.
+pub enum Rated {
+    Formed { rate: Rate, next: u64 },
+    Refused(Refusal),
+    OutOfRange,
+}
+
+// The counts that the code at a bit position means, and the position after it.
+pub fn reading(bytes: &[u8], at: u64, drop: u8) -> Counted
+    ensures { λ r. ⌜ ReadingPromise (now (bytes .entry)) at drop r ⌝ }
+{
+    let answer = code::unpack(bytes, at, drop);
+    let Unpacked::Number { value, next } = answer else {
+        return Counted::Refused(handed(answer));
+    };
+    if code::sign(value) == 1 {
+        return Counted::Refused(Refusal::OutsideRule);
+    }
+    Counted::Counts {
+        reading: band::counts(code::magnitude(value), drop as u32),
+        next,
+    }
+}
+
+// The rate of the code at a bit position, over the seconds of a cadence level, and the position after the code.
+pub fn rate(bytes: &[u8], at: u64, drop: u8, level: u8) -> Rated
+    ensures { λ r. ⌜ RatePromise (now (bytes .entry)) at drop level r ⌝ }
+{
+    let answer = reading(bytes, at, drop);
+    let Counted::Counts { reading, next } = answer else {
+        return Rated::Refused(reason(answer));
+    };
+    let length = cadence::seconds(level);
+    let Length::Seconds(seconds) = length else {
+        return Rated::OutOfRange;
+    };
+    Rated::Formed {
+        rate: band::divided(reading, seconds),
+        next,
+    }
+}
+
+// Document 01's number of what reading answered, 0 where counts were read.
+pub fn counted_number(a: Counted) -> u8
+    ensures { λ r. ⌜ r ≡ numberOf (countedPaper a) ⌝ }
+{
+    match a {
+        Counted::Counts {
+            reading: _,
+            next: _,
+        } => 0,
+        Counted::Refused(why) => refusal_number(why),
+    }
+}
+
+// Document 01's number of what forming a rate answered, 0 where it was formed.
+pub fn rated_number(a: Rated) -> u8
+    ensures { λ r. ⌜ r ≡ numberOf (ratedPaper a) ⌝ }
+{
+    match a {
+        Rated::Formed { rate: _, next: _ } => 0,
+        Rated::Refused(why) => refusal_number(why),
+        Rated::OutOfRange => 19,
+    }
+}
+
+// Document 01's number of a refusal.
+pub fn refusal_number(why: Refusal) -> u8
+    ensures { λ r. ⌜ r ≡ refusalNumber why ⌝ }
+{
+    match why {
+        Refusal::OutsideRule => 8,
+        Refusal::RanOut => 9,
+        Refusal::RedundantZero => 10,
+        Refusal::RunTooLong => 11,
+    }
+}
+
+// A code's refusal, handed on as it is.
+fn handed(answer: Unpacked) -> Refusal
+    ensures { λ r. ⌜ r ≡ refusalOf answer ⌝ }
+{
+    match answer {
+        Unpacked::Number { value: _, next: _ } => Refusal::OutsideRule,
+        Unpacked::OutsideRule => Refusal::OutsideRule,
+        Unpacked::RanOut => Refusal::RanOut,
+        Unpacked::RedundantZero => Refusal::RedundantZero,
+        Unpacked::RunTooLong => Refusal::RunTooLong,
+    }
+}
+
+// The refusal that a reading was answered with.
+fn reason(answer: Counted) -> Refusal
+    ensures { λ r. ⌜ r ≡ refusalIn answer ⌝ }
+{
+    match answer {
+        Counted::Refused(why) => why,
+        Counted::Counts {
+            reading: _,
+            next: _,
+        } => Refusal::OutsideRule,
+    }
+}
