@@ -8,6 +8,7 @@ mod codes;
 mod formats;
 mod messages;
 mod packets;
+mod rates;
 mod say;
 
 use feed::Block;
@@ -62,6 +63,9 @@ fn answer(block: &[u8]) {
         b'u' => codes::unpack(given),
         b'P' => codes::packs(given),
         b'U' => codes::unpacks(given),
+        b'd' => rates::reading(given),
+        b'q' => rates::rates(given),
+        b'R' => rates::many(given),
         b'x' => formats::call(given),
         b't' => cadences::call(given),
         _ => (),

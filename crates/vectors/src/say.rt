@@ -66,28 +66,21 @@ pub fn number(bits: u64) -> i32 {
     0
 }
 
-// The magnitude of a signed number.
-pub fn magnitude(v: i32) -> u32 {
-    let wide = v as i64;
-    if wide < 0 {
-        (0 - wide) as u32
-    } else {
-        wide as u32
-    }
-}
-
 // A signed number, in decimal.
 pub fn signed(v: i32) {
-    if v < 0 {
+    if code::sign(v) == 1 {
         io::write_all(STDOUT_FILENO, b"-");
     }
-    first(magnitude(v) as u64);
+    first(code::magnitude(v) as u64);
 }
 
 // The 32 bits of a signed number.
 pub fn bits(v: i32) -> u64 {
-    let size = magnitude(v) as u64;
-    if v < 0 && 0 < size {
+    let size = code::magnitude(v) as u64;
+    if size == 0 {
+        return 0;
+    }
+    if code::sign(v) == 1 {
         4294967296 - size
     } else {
         size
@@ -124,4 +117,15 @@ pub fn log_bytes(room: &mut [u8], at: usize, bytes: &[u8]) -> usize {
         i += 1;
     }
     end
+}
+
+// The bits of a float; 0 for one that is no number.
+pub fn float_bits(x: f64) -> u64 {
+    if x == x { f64::to_bits(x) } else { 0 }
+}
+
+// A float by its bits, in sixteen hexadecimal digits.
+pub fn float(x: f64) {
+    space();
+    io::print_hex(STDOUT_FILENO, float_bits(x), 16);
 }
