@@ -17,29 +17,29 @@ use Rattle.histogram.specs.declared.Asked.{Asked}
 use Rattle.histogram.specs.declared.AskAnswer.{AskAnswer}
 
 -- opening has one outcome
-pub one-open : (m : List ℕ) (r r′ : Opened) (after after′ : List ℕ) → OpenPromise m r after → OpenPromise m r′ after′ → (r ≡ r′) × (after ≡ after′)
-one-open m r r′ after after′ p q =
+pub open-one : (m : List ℕ) (r r′ : Opened) (after after′ : List ℕ) → OpenPromise m r after → OpenPromise m r′ after′ → (r ≡ r′) × (after ≡ after′)
+open-one m r r′ after after′ p q =
     (one-answer openedPaper openedBack opened-home (p .answer) (q .answer), one-value (p .memory) (q .memory))
 
 -- an increment has one outcome
-pub one-increment : (m : List ℕ) (s : State) (address : ℕ) (r r′ : Incremented) (after after′ : List ℕ)
+pub increment-one : (m : List ℕ) (s : State) (address : ℕ) (r r′ : Incremented) (after after′ : List ℕ)
     → IncrementPromise m s address r after → IncrementPromise m s address r′ after′ → (r ≡ r′) × (after ≡ after′)
-one-increment m s address r r′ after after′ p q = (
+increment-one m s address r r′ after after′ p q = (
   ap₂ {C = Incremented} (λ (a : IncrementAnswer) (t : State). record { answer = a; state = t })
       (one-answer incrementPaper incrementBack increment-home (p .answer) (q .answer)) (one-value (p .state) (q .state)),
   one-value (p .memory) (q .memory),
 )
 
 -- a flip has one outcome
-pub one-flip : (m : List ℕ) (s : State) (r r′ : Flipped) → FlipPromise m s r → FlipPromise m s r′ → r ≡ r′
-one-flip m s r r′ p q =
+pub flip-one : (m : List ℕ) (s : State) (r r′ : Flipped) → FlipPromise m s r → FlipPromise m s r′ → r ≡ r′
+flip-one m s r r′ p q =
     ap₂ {C = Flipped} (λ (a : FlipAnswer) (t : State). record { answer = a; state = t })
     (one-answer flipPaper flipBack flip-home (p .answer) (q .answer)) (one-value (p .state) (q .state))
 
 -- an ask has one outcome
-pub one-ask : (m : List ℕ) (s : State) (number : ℕ) (w : Window) (r r′ : Asked) (after after′ : List ℕ)
+pub ask-one : (m : List ℕ) (s : State) (number : ℕ) (w : Window) (r r′ : Asked) (after after′ : List ℕ)
     → AskPromise m s number w r after → AskPromise m s number w r′ after′ → (r ≡ r′) × (after ≡ after′)
-one-ask m s number w r r′ after after′ p q = (
+ask-one m s number w r r′ after after′ p q = (
   ap₂ {C = Asked} (λ (a : AskAnswer) (t : State). record { answer = a; state = t })
       (one-answer askPaper askBack ask-home (p .answer) (q .answer)) (one-value (p .state) (q .state)),
   one-value (p .memory) (q .memory),

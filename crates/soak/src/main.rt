@@ -2,7 +2,7 @@
 // checks that held plus cleared equals accepted, and that the last accepted ask, asked again, answers its sum and changes nothing.
 //
 // The script is text on standard input, at most 65,536 bytes of it. Each call is a letter and its numbers, in decimal, with spaces before each:
-//   o WORDS                                          open a memory of so many words (2N), at most 4,096; what comes up to the next o is played on it
+//   o WORDS                                          open a memory of so many words (2N), at most 524,288; what comes up to the next o is played on it
 //   i ADDRESS                                        increment
 //   f                                                flip
 //   a NUMBER ADDRESS XSIZE YSIZE YSTRIDE CLEAR       ask; CLEAR is 1 to clear, 0 to keep
@@ -39,7 +39,7 @@ use script::read_order;
 fn main() {
     let mut text = io::large_buffer();
     let n = io::read_full(0, &mut text);
-    let mut words = [0u32; 4096];
+    let mut words = [0u32; 524288];
     let memory: &mut [u32] = &mut words;
     play(&text[..n], memory);
 }
