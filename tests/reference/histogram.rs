@@ -223,3 +223,159 @@ pub fn script() -> (String, String) {
     ledger(&memory, &state, cleared, accepted, &mut output);
     (input, output)
 }
+
+/// Numbers of a block, one after the other.
+struct Given<'a>(&'a [u8]);
+
+impl Given<'_> {
+    fn take(&mut self, count: usize) -> u64 {
+        let (front, rest) = self.0.split_at(count);
+        self.0 = rest;
+        front.iter().fold(0, |n, &byte| n << 8 | byte as u64)
+    }
+
+    fn window(&mut self) -> Window {
+        Window {
+            address: self.take(4) as u32,
+            xsize: self.take(1) as u8,
+            ysize: self.take(1) as u8,
+            ystride: self.take(2) as u16,
+            clear: self.take(1) != 0,
+        }
+    }
+}
+
+/// The line of one call on a memory and a state that a caller made up. Given: the memory's length, pokes, the state, the call.
+pub fn call_line(given: &[u8]) -> String {
+    let mut given = Given(given);
+    let words = given.take(4) as usize;
+    let mut memory = vec![0u32; words];
+    for _ in 0..given.take(1) {
+        let (index, value) = (given.take(4) as usize, given.take(4) as u32);
+        if index < words {
+            memory[index] = value;
+        }
+    }
+    let (words, upper_active, kept) = (given.take(4) as usize, given.take(1) != 0, given.take(1) != 0);
+    let last = (given.take(2) as u16, given.window(), given.take(8));
+    let mut state = State { words, upper_active, kept: kept.then_some(last) };
+    let answer = match given.take(1) as u8 {
+        b'o' => open(&mut memory).map(|fresh| {
+            state = fresh;
+            String::new()
+        }),
+        b'i' => increment(&mut memory, &state, given.take(4) as u32).map(|()| String::new()),
+        b'f' => flip(&memory, &mut state).map(|()| String::new()),
+        _ => {
+            let number = given.take(2) as u16;
+            ask(&mut memory, &mut state, number, given.window()).map(|asked| match asked {
+                Asked::New(sum) => format!(" 0 {sum}"),
+                Asked::Again(sum) => format!(" 1 {sum}"),
+            })
+        }
+    };
+    let answer = match answer {
+        Ok(values) => format!("0{values}"),
+        Err(number) => format!("{number}"),
+    };
+    let kept = match state.kept {
+        None => "0 0 0 0 0 0 0 0".to_string(),
+        Some((number, w, sum)) => {
+            format!("1 {number} {} {} {} {} {} {sum}", w.address, w.xsize, w.ysize, w.ystride, w.clear as u8)
+        }
+    };
+    let bytes: Vec<u8> = memory.iter().flat_map(|word| word.to_be_bytes()).collect();
+    format!("{answer} {} {} {kept} {:04x}", state.words, state.upper_active as u8, crate::checksum::of(&bytes))
+}
+
+fn put_window(block: &mut Vec<u8>, w: &Window) {
+    block.extend(w.address.to_be_bytes());
+    block.extend([w.xsize, w.ysize]);
+    block.extend(w.ystride.to_be_bytes());
+    block.push(w.clear as u8);
+}
+
+fn block(words: u32, pokes: &[(u32, u32)], state: &State, call: &Call) -> Vec<u8> {
+    let mut block = vec![b'g'];
+    block.extend(words.to_be_bytes());
+    block.push(pokes.len() as u8);
+    for (index, value) in pokes {
+        block.extend(index.to_be_bytes());
+        block.extend(value.to_be_bytes());
+    }
+    block.extend((state.words as u32).to_be_bytes());
+    block.extend([state.upper_active as u8, state.kept.is_some() as u8]);
+    let nothing = (0, Window { address: 0, xsize: 0, ysize: 0, ystride: 0, clear: false }, 0);
+    let (number, window, sum) = state.kept.unwrap_or(nothing);
+    block.extend(number.to_be_bytes());
+    put_window(&mut block, &window);
+    block.extend(sum.to_be_bytes());
+    match call {
+        Call::Open(_) => block.push(b'o'),
+        Call::Increment(address) => {
+            block.push(b'i');
+            block.extend(address.to_be_bytes());
+        }
+        Call::Flip => block.push(b'f'),
+        Call::Ask(number, window) => {
+            block.push(b'a');
+            block.extend(number.to_be_bytes());
+            put_window(&mut block, window);
+        }
+    }
+    block
+}
+
+/// The stored vectors: every refusal and every order of two, words at and above the full mark, windows that overlap themselves,
+/// numbers around 65535, states that no call made.
+pub fn blocks(random: &mut Random, all: &mut Vec<Vec<u8>>) {
+    let small = |random: &mut Random, end: u64| random.below(end);
+    for words in [0u32, 1, 2, 2, 3, 4, 4, 4, 6, 6, 8, 64, 200, 1023, 1024] {
+        for _ in 0..100 {
+            let n = (words / 2).max(1) as u64;
+            let values = [0, 1, 7, FULL - 1, FULL, FULL + 1, u32::MAX];
+            let many = if small(random, 2) == 0 { 4 } else { 2 };
+            let pokes: Vec<(u32, u32)> = (0..small(random, 12))
+                .map(|_| (random.below(words as u64 + 1) as u32, values[random.below(many + 3) as usize]))
+                .collect();
+            let window = |random: &mut Random| Window {
+                address: random.below(n + 1) as u32,
+                xsize: random.below(n.min(200) / 2 + 1) as u8,
+                ysize: random.below(4) as u8,
+                ystride: random.below(n / 3 + 1) as u16,
+                clear: random.below(2) == 0,
+            };
+            let last = [0u16, 1, 2, 65_534, 65_535][random.below(5) as usize];
+            let kept = window(random);
+            let state = State {
+                words: if small(random, 20) == 0 { random.below(1030) as usize } else { words as usize },
+                upper_active: small(random, 2) == 0,
+                kept: (small(random, 4) > 0).then_some((last, kept, random.next() >> random.below(64))),
+            };
+            let call = match small(random, 8) {
+                0 => Call::Open(0),
+                1 | 2 => Call::Increment(random.below(n + 2) as u32),
+                3 => Call::Flip,
+                _ => {
+                    let number = match small(random, 6) {
+                        0 => last,
+                        1 => random.next() as u16,
+                        2 => 1,
+                        _ => last.wrapping_add(1),
+                    };
+                    let w = if small(random, 3) == 0 { kept } else { window(random) };
+                    Call::Ask(number, w)
+                }
+            };
+            all.push(block(words, &pokes, &state, &call));
+        }
+    }
+    // a repeat whose window no longer fits, and one on words above the mark: it meets only 13
+    let far = Window { address: 9, xsize: 9, ysize: 9, ystride: 9, clear: true };
+    let state = State { words: 4, upper_active: false, kept: Some((65_535, far, 12)) };
+    all.push(block(4, &[(2, u32::MAX)], &state, &Call::Ask(65_535, far)));
+    all.push(block(4, &[(2, u32::MAX)], &state, &Call::Ask(65_535, Window { clear: false, ..far })));
+    all.push(block(4, &[(2, u32::MAX)], &state, &Call::Ask(0, Window { address: 0, xsize: 0, ysize: 0, ystride: 0, clear: true })));
+    all.push(block(4, &[(0, FULL)], &state, &Call::Increment(0)));
+    all.push(block(4, &[(0, FULL + 1)], &state, &Call::Increment(0)));
+}

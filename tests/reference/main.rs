@@ -36,6 +36,7 @@ fn answer(block: &[u8]) -> String {
         b'R' => code::rates_line(given),
         b'd' => code::reading_line(given),
         b'q' => code::rate_line(given),
+        b'g' => histogram::call_line(given),
         b'x' => format::line(given),
         b't' => cadence::line(given),
         _ => String::new(),
@@ -53,6 +54,7 @@ fn feed() -> Vec<Vec<u8>> {
     format::blocks(&mut random, &mut all);
     cadence::blocks(&mut all);
     code::reading_blocks(&mut random, &mut all);
+    histogram::blocks(&mut random, &mut all);
     all
 }
 

@@ -2,3 +2,4 @@ pub mod StarredCases
 pub mod ReadBack
 pub mod SameBits
 pub mod Ledger
+pub mod OneOutcome

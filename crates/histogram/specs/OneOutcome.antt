@@ -3,7 +3,7 @@
 use mathlib.Core.Path.{_≡_, ap₂}
 use mathlib.Core.List.{List}
 use Prim.Native.Nat.{ℕ}
-use Rattle.ground.specs.Paper.{one-answer, one-value}
+use Rattle.ground.specs.Paper.{numberOf, one-answer, one-value}
 use Rattle.histogram.specs.Answers.{openedPaper, openedBack, opened-home, incrementPaper, incrementBack, increment-home, flipPaper, flipBack, flip-home, askPaper, askBack, ask-home}
 use Rattle.histogram.specs.Promise.{OpenPromise, IncrementPromise, FlipPromise, AskPromise}
 use Rattle.histogram.specs.declared.Window.{Window}
@@ -44,3 +44,19 @@ ask-one m s number w r r′ after after′ p q = (
       (one-answer askPaper askBack ask-home (p .answer) (q .answer)) (one-value (p .state) (q .state)),
   one-value (p .memory) (q .memory),
 )
+
+-- one number for an answer
+pub open-number-one : (answer : Opened) {m n : ℕ} → m ≡ numberOf (openedPaper answer) → n ≡ numberOf (openedPaper answer) → m ≡ n
+open-number-one answer p q = one-value p q
+
+-- one number for an answer
+pub increment-number-one : (answer : IncrementAnswer) {m n : ℕ} → m ≡ numberOf (incrementPaper answer) → n ≡ numberOf (incrementPaper answer) → m ≡ n
+increment-number-one answer p q = one-value p q
+
+-- one number for an answer
+pub flip-number-one : (answer : FlipAnswer) {m n : ℕ} → m ≡ numberOf (flipPaper answer) → n ≡ numberOf (flipPaper answer) → m ≡ n
+flip-number-one answer p q = one-value p q
+
+-- one number for an answer
+pub ask-number-one : (answer : AskAnswer) {m n : ℕ} → m ≡ numberOf (askPaper answer) → n ≡ numberOf (askPaper answer) → m ≡ n
+ask-number-one answer p q = one-value p q

@@ -4,7 +4,7 @@ use mathlib.Core.Path.{_≡_, sym, _∙_}
 use mathlib.Core.List.{List}
 use Prim.Native.Nat.{ℕ}
 use denote.Ref.{RefT}
-use Rattle.ground.specs.Paper.{one-answer, one-value}
+use Rattle.ground.specs.Paper.{numberOf, one-answer, one-value}
 use Rattle.packet.specs.declared.Found.{Found}
 use Rattle.packet.specs.declared.Headed.{Headed}
 use Rattle.packet.specs.declared.Written.{Written}
@@ -29,3 +29,15 @@ payload-one p q =
 pub write-one : {buffer : List ℕ} {apid : ℕ} {payload : List ℕ} {r s : Written} {m n : List ℕ}
     → WritePromise buffer apid payload r m → WritePromise buffer apid payload s n → (r ≡ s) × (m ≡ n)
 write-one p q = (one-answer writtenPaper writtenBack written-home (p .answer) (q .answer), one-value (p .memory) (q .memory))
+
+-- one number for an answer
+pub found-number-one : (answer : Found) {m n : ℕ} → m ≡ numberOf (foundPaper answer) → n ≡ numberOf (foundPaper answer) → m ≡ n
+found-number-one answer p q = one-value p q
+
+-- one number for an answer
+pub headed-number-one : (answer : Headed) {m n : ℕ} → m ≡ numberOf (headedPaper answer) → n ≡ numberOf (headedPaper answer) → m ≡ n
+headed-number-one answer p q = one-value p q
+
+-- one number for an answer
+pub written-number-one : (answer : Written) {m n : ℕ} → m ≡ numberOf (writtenPaper answer) → n ≡ numberOf (writtenPaper answer) → m ≡ n
+written-number-one answer p q = one-value p q
