@@ -2,12 +2,12 @@
 -- Assumes nothing.
 use mathlib.Core.Path.{_≡_, refl, sym, ap, ap₂, _∙_}
 use mathlib.Core.List.{List, [], _∷_, _++_, append-assoc}
-use Prim.Native.Nat.{ℕ, suc, _+_, _/_, _%_, _^_, _<_, _≤_}
-use native.Mathlib.Nat.{add-suc, suc-add}
+use Prim.Native.Nat.{ℕ, suc, _+_, _/_, _%_, _^_, _<_, _≤_, zero-le}
+use native.Mathlib.Nat.{le-refl}
 use native.Mathlib.Numerals.{add-one}
 use native.Mathlib.Omega.{arith}
-use lib.ListN.{length, take, drop, set, getD, length-append, length-take, length-drop}
-use lib.Seq.{take-at, drop-at, drop-drop, sets-eq, take-suc, set-at, length-take-le, append-snoc}
+use lib.ListN.{length, take, drop, set, getD, length-append, length-take, length-drop, length-set}
+use lib.Seq.{take-at, drop-at, drop-drop, sets-eq, take-suc, set-at, length-take-le, append-snoc, paste, paste-zero, paste-suc, take-all}
 use Rattle.ground.specs.Words.{bytesOf}
 
 -- the buffer with bytes put over those from a place on
@@ -45,3 +45,34 @@ put-front l at bytes b h =
     ∙ ap (λ (x : List ℕ). set x at b) (append-snoc (take at l) (getD l at 0) rest)
     ∙ set-at (take at l) (getD l at 0) rest b at (length-take-le at l (omega arith))
     ∙ ap (λ (k : ℕ). take at l ++ (b ∷ (bytes ++ drop k l))) past
+
+-- the first i bytes of a text are copied over a buffer's from a place on, and the buffer is as long as it was
+pub record Copied (room₀ : List ℕ) (at : ℕ) (text room : List ℕ) (i : ℕ) : Type 0 where
+  pub within : i ≤ length text
+  pub long : length room ≡ length room₀
+  pub so-far : room ≡ paste room₀ at text i
+
+pub copied-none : (room : List ℕ) (at : ℕ) (text : List ℕ) → Copied room at text room 0
+copied-none room at text = record { within = zero-le; long = refl; so-far = paste-zero room at text }
+
+-- one byte more
+pub copied-more : {room₀ : List ℕ} {at : ℕ} {text room : List ℕ} {i : ℕ} (b : ℕ) → at + length text ≤ length room₀
+    → Copied room₀ at text room i → i < length text → b ≡ getD text i 0 → Copied room₀ at text (set room (at + i) b) (i + 1)
+copied-more {room₀} {at} {text} {room} {i} b n p h e =
+    record {
+      within = omega arith;
+      long = length-set room (at + i) b ∙ p .long;
+      so-far =
+          ap₂ (λ (x : List ℕ) (y : ℕ). set x (at + i) y) (p .so-far) e
+          ∙ paste-suc room₀ at text i 0 (omega arith) h
+          ∙ ap (paste room₀ at text) (sym (add-one i));
+    }
+
+-- all is copied
+pub copied-all : {room₀ : List ℕ} {at : ℕ} {text room : List ℕ} {i : ℕ} → Copied room₀ at text room i → length text ≤ i → room ≡ put room₀ at text
+copied-all {room₀} {at} {text} {room} {i} p h =
+    let all : i ≡ length text = omega (arith, p .within) in
+    p .so-far
+    ∙ ap (paste room₀ at text) all
+    ∙ ap (λ (x : List ℕ). take at room₀ ++ x ++ drop (at + length text) room₀) (take-all (length text) text (le-refl (length text)))
+    ∙ append-assoc (take at room₀) text (drop (at + length text) room₀)

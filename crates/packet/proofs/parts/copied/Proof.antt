@@ -1,22 +1,22 @@
 -- `packet::copied` meets its contract. The loop's invariant: the bytes passed are copied.
 -- Assumes nothing.
-use Prim.Native.Nat.{ℕ, _+_, _-_, _≤_}
-use mathlib.Core.Path.{_≡_, sym, ap, _∙_}
+use Prim.Native.Nat.{_-_}
+use mathlib.Core.Path.{_∙_}
 use borrow.Author.Needs.{needs}
 use lib.ListN.{length}
-use lib.Seq.{paste}
-use Rattle.packet.proofs.Copying.{Copied, copied-none, copied-more, copied-all}
+use Rattle.ground.specs.Putting.{Copied, copied-none, copied-all}
+use Rattle.packet.proofs.Copying.{copied-front, put-whole}
 use Rattle.packet.proofs.parts.copied.Statement.{statement}
 use Rattle.packet.proofs.parts.copied.Tie as tie
 
 abbrev Inv-loop : tie.InvT-loop
-Inv-loop part₀ payload i₀ part i = Copied part₀ payload part i
+Inv-loop part₀ payload i₀ part i = Copied part₀ 0 payload part i
 
 abbrev μ-loop : tie.MeasureT-loop
 μ-loop part₀ payload i₀ part i = length payload - i
 
 loop-holds : tie.Need-loop-holds Inv-loop μ-loop
-loop-holds c = copied-none (c .args .part .now) (c .args .payload .now)
+loop-holds c = copied-none (c .args .part .now) 0 (c .args .payload .now)
 
 shared-slice-read-part : tie.Need-shared-slice-read-part Inv-loop μ-loop
 shared-slice-read-part c = search needs
@@ -31,13 +31,15 @@ loop-less : tie.Need-loop-less Inv-loop μ-loop
 loop-less c = search needs
 
 loop-again : tie.Need-loop-again Inv-loop μ-loop
-loop-again c = copied-more (c .before .before .before .pre) (c .before .before .loop .inv) (search needs)
+loop-again c = copied-front (c .before .before .before .pre) (c .before .before .loop .inv) (search needs)
 
 same-length : tie.Need-same-length Inv-loop μ-loop
 same-length c = c .before .loop .inv .long
 
 returns : tie.Need-returns Inv-loop μ-loop
-returns c = copied-all (c .before .before .pre) (c .before .loop .inv) (search needs)
+returns c =
+    copied-all (c .before .loop .inv) (search needs)
+    ∙ put-whole (c .before .before .args .part .now) (c .before .before .args .payload .now) (c .before .before .pre)
 
 pub copied-spec : {M : Type 1} → statement M
 copied-spec =

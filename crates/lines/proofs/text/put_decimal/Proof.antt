@@ -1,0 +1,42 @@
+use borrow.Author.Needs.{needs}
+use Rattle.lines.proofs.text.put_decimal.Statement.{statement}
+use Rattle.lines.proofs.text.put_decimal.Tie as tie
+use Rattle.lines.proofs.text.put_decimal.Reads as reads
+use Rattle.lines.proofs.text.put_decimal.Lts as lts
+use Rattle.io.proofs.decimal.Reads as decimal-reads
+use Rattle.lines.proofs.text.put_text.Reads as put-text-reads
+
+-- src/text.rt:33:9
+decimal-requires : tie.Need-decimal-requires
+decimal-requires c κs = search needs
+
+-- src/text.rt:34:24
+array-share-prefix-text : tie.Need-array-share-prefix-text
+array-share-prefix-text c = search needs
+
+-- src/text.rt:34:24
+slice-aggregate-put-text : tie.Need-slice-aggregate-put-text
+slice-aggregate-put-text c = search needs
+
+-- src/text.rt:34:5
+put-text-requires : tie.Need-put-text-requires
+put-text-requires c κs = ?
+
+-- src/text.rt:28:1
+same-length : tie.Need-same-length
+same-length c = search needs
+
+-- src/text.rt:28:1
+returns : tie.Need-returns
+returns c = ?
+
+pub put-decimal-spec : {M : Type 1} → statement M
+put-decimal-spec =
+    tie.close
+    (tie.spec
+    decimal-requires
+    array-share-prefix-text
+    slice-aggregate-put-text
+    put-text-requires
+    same-length
+    returns)

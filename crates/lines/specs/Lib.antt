@@ -1,0 +1,5 @@
+pub mod Meaning
+pub mod Cases
+pub mod Reading
+pub mod Texts
+pub mod Promise
