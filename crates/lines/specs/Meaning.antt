@@ -53,7 +53,7 @@ abbrev pub good : List ℕ → Bool
 good line = numeral (afterMinus line) && leb (decimal 0 (afterMinus line)) largest
 
 -- the shortest decimal of a number of so many digits at most
-abbrev pub shortest : ℕ → ℕ → List ℕ
+unfoldable pub shortest : ℕ → ℕ → List ℕ
 shortest zero n = []
 shortest (suc places) n = pick (ltb n 10) ((48 + n) ∷ []) (shortest places (n / 10) ++ ((48 + n % 10) ∷ []))
 

@@ -1,15 +1,59 @@
 // Text put into a room: bytes, a number in shortest decimal, a code in digits 0 and 1.
 ghost use mathlib.Core.Path.{_≡_};
-ghost use mathlib.Core.List.{map};
+ghost use mathlib.Core.List.{_∷_, [], map};
 ghost use Prim.Native.Nat.{_+_, _*_, _/_, _-_, _%_, _^_, _≤_, _<_};
 ghost use lib.IntN.{natAbs};
 ghost use lib.ListN.{length, take};
 ghost use Rattle.ground.specs.Bits.{bitsOf};
 ghost use Rattle.ground.specs.Putting.{put};
+ghost use Rattle.code.specs.Answers.{packedPaper};
 ghost use Rattle.code.specs.Meaning.{largest};
-ghost use Rattle.lines.specs.Meaning.{shortest, codeText};
-ghost use Rattle.lines.specs.Texts.{Dropped, Put};
+ghost use Rattle.code.specs.Shapes.{Drop};
+ghost use Rattle.lines.specs.Meaning.{shortest, codeText, valueText, numberText};
+ghost use Rattle.lines.specs.Texts.{Put, nextOf};
 use code::Packed;
+
+// Puts a number's line: the value and both codes.
+pub(crate) fn put_number(room: &mut [u8], at: usize, v: i32) -> usize
+    requires { ⌜ (at + 80 ≤ length (now room)) × (natAbs v ≤ largest) ⌝ }
+    ensures { λ r. ⌜ Put (now (room .entry)) at (numberText v) r (now (room .exit)) ⌝ }
+{
+    let value = put_value(room, at, v);
+    let first = put_spaced(room, value, v, 0);
+    let second = put_spaced(room, first, v, 3);
+    put_byte(room, second, 10)
+}
+
+// Puts a value in shortest decimal, with its minus.
+fn put_value(room: &mut [u8], at: usize, v: i32) -> usize
+    requires { ⌜ (at + 21 ≤ length (now room)) × (natAbs v ≤ largest) ⌝ }
+    ensures { λ r. ⌜ (Put (now (room .entry)) at (valueText v) r (now (room .exit))) × (r ≤ at + 9) ⌝ }
+{
+    if code::sign(v) == 1 {
+        let after = put_byte(room, at, 45);
+        put_decimal(room, after, code::magnitude(v))
+    } else {
+        put_decimal(room, at, code::magnitude(v))
+    }
+}
+
+// Puts a space and a code.
+fn put_spaced(room: &mut [u8], at: usize, v: i32, drop: u8) -> usize
+    requires { ⌜ (at + 33 ≤ length (now room)) × (natAbs v ≤ largest) × Drop drop ⌝ }
+    ensures { λ r. ⌜ (Put (now (room .entry)) at (32 ∷ codeText drop v) r (now (room .exit))) × (r ≤ at + 28) ⌝ }
+{
+    let after = put_byte(room, at, 32);
+    put_code(room, after, v, drop)
+}
+
+// Puts one byte.
+fn put_byte(room: &mut [u8], at: usize, byte: u8) -> usize
+    requires { ⌜ at < length (now room) ⌝ }
+    ensures { λ r. ⌜ (Put (now (room .entry)) at (byte ∷ []) r (now (room .exit))) × (r ≡ at + 1) ⌝ }
+{
+    room[at] = byte;
+    at + 1
+}
 
 // Puts text into a room from a place on, and answers the place after it.
 pub(crate) fn put_text(room: &mut [u8], at: usize, text: &[u8]) -> usize
@@ -25,7 +69,7 @@ pub(crate) fn put_text(room: &mut [u8], at: usize, text: &[u8]) -> usize
 }
 
 // Puts a number of at most eight digits in shortest decimal.
-pub(crate) fn put_decimal(room: &mut [u8], at: usize, n: u32) -> usize
+fn put_decimal(room: &mut [u8], at: usize, n: u32) -> usize
     requires { ⌜ (at + 20 ≤ length (now room)) × (n < 100000000) ⌝ }
     ensures { λ r. ⌜ Put (now (room .entry)) at (shortest 8 n) r (now (room .exit)) ⌝ }
 {
@@ -35,16 +79,23 @@ pub(crate) fn put_decimal(room: &mut [u8], at: usize, n: u32) -> usize
 }
 
 // Puts the code of a number in digits 0 and 1.
-pub(crate) fn put_code(room: &mut [u8], at: usize, v: i32, drop: u8) -> usize
-    requires { ⌜ (at + 32 ≤ length (now room)) × (natAbs v ≤ largest) × Dropped drop ⌝ }
+fn put_code(room: &mut [u8], at: usize, v: i32, drop: u8) -> usize
+    requires { ⌜ (at + 32 ≤ length (now room)) × (natAbs v ≤ largest) × Drop drop ⌝ }
     ensures { λ r. ⌜ Put (now (room .entry)) at (codeText drop v) r (now (room .exit)) ⌝ }
 {
     let mut bytes = [0u8; 4];
     let packed = code::pack(&mut bytes, 0, v, drop);
+    put_bits(room, at, &bytes, next_of(packed))
+}
+
+// The position that writing a code answered.
+fn next_of(packed: Packed) -> u64
+    ensures { λ r. ⌜ r ≡ nextOf (packedPaper packed) ⌝ }
+{
     match packed {
-        Packed::Next(next) => put_bits(room, at, &bytes, next),
-        Packed::OutsideRule => at,
-        Packed::TooShort => at,
+        Packed::Next(next) => next,
+        Packed::OutsideRule => 0,
+        Packed::TooShort => 0,
     }
 }
 
