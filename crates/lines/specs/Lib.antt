@@ -5,3 +5,4 @@ pub mod Texts
 pub mod Running
 pub mod Promise
 pub mod OneOutcome
+pub mod Moving
