@@ -1,14 +1,12 @@
--- `codes::print_piece` is safe, ends, and comes to the end of the piece: each run gets on.
+-- `codes::print_piece` is safe and ends: each run gets on, so that the measure is the bytes that are left.
 -- Assumes nothing.
-use mathlib.Core.Path.{sym}
-use lib.Seq.{length-take-le}
-use native.Mathlib.Omega.{arith}
-use mathlib.Core.Path.{_≡_}
-use Prim.Native.Nat.{_≤_, _+_, _-_}
-use lib.ListN.{length, length-take, length-drop}
-use Rattle.lines.specs.Moving.{run-used, run-put, run-moves}
-use lib.ListN.{drop}
+use mathlib.Core.Path.{_≡_, sym}
+use Prim.Native.Nat.{_≤_, _-_}
+use Rattle.codes.proofs.Pieces.{stays, gets-on}
 use borrow.Author.Needs.{needs}
+use lib.ListN.{length}
+use lib.Seq.{length-take-le}
+use Rattle.lines.specs.Moving.{run-put}
 use Rattle.codes.proofs.print_piece.Statement.{statement}
 use Rattle.codes.proofs.print_piece.Tie as tie
 
@@ -43,13 +41,13 @@ write-all-requires : tie.Need-write-all-requires Inv-loop μ-loop
 write-all-requires c κs = search needs
 
 add-at : tie.Need-add-at Inv-loop μ-loop
-add-at c = let inside : (c .before .before .before .before .before .before .before .before .before .before .loop .at) + c .before .before .before .before .before .before .run .result .used ≤ length (c .before .before .before .before .before .before .before .before .before .before .before .before .before .args .piece .now) = omega (arith, run-used (c .before .before .before .before .before .before .run .ensures), length-take (length (c .before .before .before .before .before .before .before .before .before .before .before .before .before .args .piece .now) - (c .before .before .before .before .before .before .before .before .before .before .loop .at)) (drop (c .before .before .before .before .before .before .before .before .before .before .loop .at) (c .before .before .before .before .before .before .before .before .before .before .before .before .before .args .piece .now)), length-drop (c .before .before .before .before .before .before .before .before .before .before .loop .at) (c .before .before .before .before .before .before .before .before .before .before .before .before .before .args .piece .now), c .before .before .before .before .before .before .before .before .before .before .loop .inv .0, c .before .before .before .before .before .before .before .before .before .loop-test .taken) in search needs
+add-at c = let inside = stays (c .before .before .before .before .before .before .before .before .before .before .before .before .before .args .piece .now) (c .before .before .before .before .before .before .before .before .before .before .loop .at) (c .before .before .before .before .before .before .run .ensures) (c .before .before .before .before .before .before .before .before .before .loop-test .taken) in search needs
 
 loop-less : tie.Need-loop-less Inv-loop μ-loop
-loop-less c = omega (arith, run-moves (c .before .before .before .before .before .before .run .ensures) (search needs) (omega (arith, length-take (length (c .before .before .before .before .before .before .before .before .before .before .before .before .before .args .piece .now) - (c .before .before .before .before .before .before .before .before .before .before .loop .at)) (drop (c .before .before .before .before .before .before .before .before .before .before .loop .at) (c .before .before .before .before .before .before .before .before .before .before .before .before .before .args .piece .now)), length-drop (c .before .before .before .before .before .before .before .before .before .before .loop .at) (c .before .before .before .before .before .before .before .before .before .before .before .before .before .args .piece .now), c .before .before .before .before .before .before .before .before .before .before .loop .inv .0, c .before .before .before .before .before .before .before .before .before .loop-test .taken)), run-used (c .before .before .before .before .before .before .run .ensures), length-take (length (c .before .before .before .before .before .before .before .before .before .before .before .before .before .args .piece .now) - (c .before .before .before .before .before .before .before .before .before .before .loop .at)) (drop (c .before .before .before .before .before .before .before .before .before .before .loop .at) (c .before .before .before .before .before .before .before .before .before .before .before .before .before .args .piece .now)), length-drop (c .before .before .before .before .before .before .before .before .before .before .loop .at) (c .before .before .before .before .before .before .before .before .before .before .before .before .before .args .piece .now), c .before .before .before .before .before .before .before .before .before .before .loop .inv .0, c .before .before .before .before .before .before .before .before .before .loop-test .taken)
+loop-less c = gets-on (c .before .before .before .before .before .before .before .before .before .before .before .before .before .args .piece .now) (c .before .before .before .before .before .before .before .before .before .before .loop .at) (c .before .before .before .before .before .before .run .ensures) (c .before .before .before .before .before .before .before .before .before .loop-test .taken) (search needs)
 
 loop-again : tie.Need-loop-again Inv-loop μ-loop
-loop-again c = (omega (arith, run-used (c .before .before .before .before .before .before .run .ensures), length-take (length (c .before .before .before .before .before .before .before .before .before .before .before .before .before .args .piece .now) - (c .before .before .before .before .before .before .before .before .before .before .loop .at)) (drop (c .before .before .before .before .before .before .before .before .before .before .loop .at) (c .before .before .before .before .before .before .before .before .before .before .before .before .before .args .piece .now)), length-drop (c .before .before .before .before .before .before .before .before .before .before .loop .at) (c .before .before .before .before .before .before .before .before .before .before .before .before .before .args .piece .now), c .before .before .before .before .before .before .before .before .before .before .loop .inv .0, c .before .before .before .before .before .before .before .before .before .loop-test .taken), search needs)
+loop-again c = (stays (c .before .before .before .before .before .before .before .before .before .before .before .before .before .args .piece .now) (c .before .before .before .before .before .before .before .before .before .before .loop .at) (c .before .before .before .before .before .before .run .ensures) (c .before .before .before .before .before .before .before .before .before .loop-test .taken), search needs)
 
 same-length : tie.Need-same-length Inv-loop μ-loop
 same-length c = c .before .loop .inv .1
