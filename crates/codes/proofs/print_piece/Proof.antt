@@ -1,0 +1,76 @@
+-- `codes::print_piece` is safe and ends: each run gets on, so that the measure is the bytes that are left.
+-- Assumes nothing.
+use mathlib.Core.Path.{_≡_, sym}
+use Prim.Native.Nat.{_≤_, _-_}
+use Rattle.codes.proofs.Pieces.{stays, gets-on}
+use borrow.Author.Needs.{needs}
+use lib.ListN.{length}
+use lib.Seq.{length-take-le}
+use Rattle.lines.specs.Moving.{run-put}
+use Rattle.codes.proofs.print_piece.Statement.{statement}
+use Rattle.codes.proofs.print_piece.Tie as tie
+
+abbrev Inv-loop : tie.InvT-loop
+Inv-loop piece room₀ current₀ at₀ room current at = (at ≤ length piece) × (length room ≡ length room₀)
+
+abbrev μ-loop : tie.MeasureT-loop
+μ-loop piece room₀ current₀ at₀ room current at = length piece - at
+
+loop-holds : tie.Need-loop-holds Inv-loop μ-loop
+loop-holds c = search needs
+
+sub-run : tie.Need-sub-run Inv-loop μ-loop
+sub-run c = search needs
+
+part-run-start : tie.Need-part-run-start Inv-loop μ-loop
+part-run-start c = search needs
+
+part-run-end : tie.Need-part-run-end Inv-loop μ-loop
+part-run-end c = search needs
+
+run-requires : tie.Need-run-requires Inv-loop μ-loop
+run-requires c κs = search needs
+
+slice-reshare-prefix-write-all : tie.Need-slice-reshare-prefix-write-all Inv-loop μ-loop
+slice-reshare-prefix-write-all c = run-put (c .before .before .run .ensures)
+
+slice-aggregate-write-all : tie.Need-slice-aggregate-write-all Inv-loop μ-loop
+slice-aggregate-write-all c = sym (length-take-le _ _ (run-put (c .before .before .before .run .ensures)))
+
+write-all-requires : tie.Need-write-all-requires Inv-loop μ-loop
+write-all-requires c κs = search needs
+
+add-at : tie.Need-add-at Inv-loop μ-loop
+add-at c = let inside = stays (c .before .before .before .before .before .before .before .before .before .before .before .before .before .args .piece .now) (c .before .before .before .before .before .before .before .before .before .before .loop .at) (c .before .before .before .before .before .before .run .ensures) (c .before .before .before .before .before .before .before .before .before .loop-test .taken) in search needs
+
+loop-less : tie.Need-loop-less Inv-loop μ-loop
+loop-less c = gets-on (c .before .before .before .before .before .before .before .before .before .before .before .before .before .args .piece .now) (c .before .before .before .before .before .before .before .before .before .before .loop .at) (c .before .before .before .before .before .before .run .ensures) (c .before .before .before .before .before .before .before .before .before .loop-test .taken) (search needs)
+
+loop-again : tie.Need-loop-again Inv-loop μ-loop
+loop-again c = (stays (c .before .before .before .before .before .before .before .before .before .before .before .before .before .args .piece .now) (c .before .before .before .before .before .before .before .before .before .before .loop .at) (c .before .before .before .before .before .before .run .ensures) (c .before .before .before .before .before .before .before .before .before .loop-test .taken), search needs)
+
+same-length : tie.Need-same-length Inv-loop μ-loop
+same-length c = c .before .loop .inv .1
+
+returns : tie.Need-returns Inv-loop μ-loop
+returns c = search needs
+
+pub print-piece-spec : {M : Type 1} → statement M
+print-piece-spec =
+    tie.close
+    (tie.spec
+    Inv-loop
+    μ-loop
+    loop-holds
+    sub-run
+    part-run-start
+    part-run-end
+    run-requires
+    slice-reshare-prefix-write-all
+    slice-aggregate-write-all
+    write-all-requires
+    add-at
+    loop-less
+    loop-again
+    same-length
+    returns)

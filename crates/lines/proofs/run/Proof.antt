@@ -1,0 +1,74 @@
+-- `lines::run` meets its contract. The loop's invariant: the run from where it stands is the whole run.
+-- Assumes nothing.
+use Prim.Native.Nat.{_-_}
+use native.Mathlib.Omega.{arith}
+use borrow.Author.Needs.{needs}
+use lib.ListN.{length}
+use Rattle.lines.proofs.Answering.{Running, running-start, running-more, running-waits, running-over, newline-room}
+use Rattle.lines.proofs.run.Statement.{statement}
+use Rattle.lines.proofs.run.Tie as tie
+
+abbrev Inv-loop : tie.InvT-loop
+Inv-loop input room₀ current₀ used₀ put₀ room current used put = Running room₀ input current₀ room current used put
+
+abbrev μ-loop : tie.MeasureT-loop
+μ-loop input room₀ current₀ used₀ put₀ room current used put = length input - used
+
+loop-holds : tie.Need-loop-holds Inv-loop μ-loop
+loop-holds c = running-start (c .before .before .args .room .now) (c .before .before .args .input .now) (c .before .before .args .line)
+
+shared-slice-read-may-go : tie.Need-shared-slice-read-may-go Inv-loop μ-loop
+shared-slice-read-may-go c = search needs
+
+may-go-requires : tie.Need-may-go-requires Inv-loop μ-loop
+may-go-requires c κs = omega (arith, c .before .before .loop .inv .fits, c .before .before .loop .inv .long)
+
+shared-slice-read-byte : tie.Need-shared-slice-read-byte Inv-loop μ-loop
+shared-slice-read-byte c = search needs
+
+put-said-requires : tie.Need-put-said-requires Inv-loop μ-loop
+put-said-requires c κs = (omega (arith, c .before .before .before .before .before .before .loop .inv .fits, c .before .before .before .before .before .before .loop .inv .long), newline-room _ _ _ (c .before .before .before .may-go .ensures) (c .before .before .if1 .taken))
+
+next-line-requires : tie.Need-next-line-requires Inv-loop μ-loop
+next-line-requires c κs = search needs
+
+add-used : tie.Need-add-used Inv-loop μ-loop
+add-used c = search needs
+
+loop-less : tie.Need-loop-less Inv-loop μ-loop
+loop-less c = omega (arith, c .before .before .before .before .before .before .before .before .before .loop-test .taken)
+
+loop-again : tie.Need-loop-again Inv-loop μ-loop
+loop-again c = running-more (c .before .before .before .before .before .before .before .before .before .before .loop .inv) (c .before .before .before .before .before .before .before .before .before .loop-test .taken) (c .before .before .before .before .before .before .before .may-go .ensures) (c .before .before .before .before .before .before .if1 .taken) (c .before .before .before .put-said .ensures) (c .next-line .ensures)
+
+same-length : tie.Need-same-length Inv-loop μ-loop
+same-length c = c .before .before .before .before .loop .inv .long
+
+returns : tie.Need-returns Inv-loop μ-loop
+returns c = running-waits (c .before .before .before .before .loop .inv) (c .before .before .before .loop-test .taken) (c .before .may-go .ensures) (c .if1 .left)
+
+same-length-2 : tie.Need-same-length-2 Inv-loop μ-loop
+same-length-2 c = c .before .loop .inv .long
+
+returns-2 : tie.Need-returns-2 Inv-loop μ-loop
+returns-2 c = running-over (c .before .loop .inv) (c .loop-test .left)
+
+pub run-spec : {M : Type 1} → statement M
+run-spec =
+    tie.close
+    (tie.spec
+    Inv-loop
+    μ-loop
+    loop-holds
+    shared-slice-read-may-go
+    may-go-requires
+    shared-slice-read-byte
+    put-said-requires
+    next-line-requires
+    add-used
+    loop-less
+    loop-again
+    same-length
+    returns
+    same-length-2
+    returns-2)

@@ -1,0 +1,33 @@
+-- Two outcomes that meet a promise are equal.
+-- Assumes nothing.
+use mathlib.Core.Path.{_≡_, refl, sym, ap, ap₂, _∙_}
+use mathlib.Core.List.{List}
+use Prim.Native.Nat.{ℕ}
+use Rattle.ground.specs.Paper.{one-value}
+use Rattle.lines.specs.declared.Line.{Line}
+use Rattle.lines.specs.declared.Ran.{Ran}
+use Rattle.lines.specs.Promise.{FreshPromise, TakenPromise, HeaderPromise, AnswerPromise, RunPromise}
+
+pub one-fresh : {r s : Line} → FreshPromise r → FreshPromise s → r ≡ s
+one-fresh p q = one-value (p .answer) (q .answer)
+
+pub one-taken : {line : Line} {byte : ℕ} {r s : Line} → TakenPromise line byte r → TakenPromise line byte s → r ≡ s
+one-taken p q = one-value (p .answer) (q .answer)
+
+pub one-header : {room : List ℕ} {r s : ℕ} {m n : List ℕ} → HeaderPromise room r m → HeaderPromise room s n → (r ≡ s) × (m ≡ n)
+one-header p q = (one-value (p .answer) (q .answer), one-value (p .memory) (q .memory))
+
+pub one-put-answer : {line : Line} {room : List ℕ} {r s : ℕ} {m n : List ℕ} → AnswerPromise line room r m → AnswerPromise line room s n
+    → (r ≡ s) × (m ≡ n)
+one-put-answer p q = (one-value (p .answer) (q .answer), one-value (p .memory) (q .memory))
+
+-- three fields that agree
+same-ran : (r s : Ran) → r .line ≡ s .line → r .used ≡ s .used → r .put ≡ s .put → r ≡ s
+same-ran r s a b c =
+    ap (λ (x : Line). record { line = x; used = r .used; put = r .put }) a
+    ∙ ap₂ (λ (m n : ℕ). record { line = s .line; used = m; put = n }) b c
+
+pub one-run : {line : Line} {input room : List ℕ} {r s : Ran} {m n : List ℕ} → RunPromise line input room r m → RunPromise line input room s n
+    → (r ≡ s) × (m ≡ n)
+one-run {r = r} {s = s} p q =
+    (same-ran r s (one-value (p .state) (q .state)) (one-value (p .used) (q .used)) (one-value (p .answer) (q .answer)), one-value (p .memory) (q .memory))
