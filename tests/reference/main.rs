@@ -6,6 +6,8 @@
 //!   reference checksum       reads bytes, and prints their checksum
 //!   reference script         the script of calls that the program `soak` plays
 //!   reference ledger         what `soak` must print
+//!   reference lines          a hard input for the program `codes`
+//!   reference codes          reads such an input, and prints what `codes` must print
 
 mod blocks;
 mod cadence;
@@ -13,6 +15,7 @@ mod checksum;
 mod code;
 mod format;
 mod histogram;
+mod lines;
 mod message;
 mod packet;
 mod random;
@@ -78,12 +81,17 @@ fn main() {
         }
         "script" => out.write_all(histogram::script().0.as_bytes()).unwrap(),
         "ledger" => out.write_all(histogram::script().1.as_bytes()).unwrap(),
+        "lines" => out.write_all(&lines::hard()).unwrap(),
+        "codes" => {
+            std::io::stdin().lock().read_to_end(&mut given).unwrap();
+            out.write_all(lines::printed(&given).as_bytes()).unwrap();
+        }
         "checksum" => {
             std::io::stdin().lock().read_to_end(&mut given).unwrap();
             writeln!(out, "{:04x}", checksum::of(&given)).unwrap();
         }
         _ => {
-            eprintln!("usage: reference feed | answers | checksum | script | ledger");
+            eprintln!("usage: reference feed | answers | checksum | script | ledger | lines | codes");
             std::process::exit(2);
         }
     }
