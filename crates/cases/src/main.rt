@@ -1,8 +1,11 @@
 // Document 01's cases and published values, run through the public calls, a line each.
+mod histograms;
+
 use libc::STDOUT_FILENO;
 
 fn main() {
     checksums();
+    histograms::run();
 }
 
 // Published check values: "123456789" and nothing from the catalogue's CRC-16/IBM-3740, the others from ECSS-E-ST-70-41C,

@@ -6,6 +6,7 @@ ghost use lib.ListN.{length};
 mod cadences;
 mod codes;
 mod formats;
+mod histograms;
 mod messages;
 mod packets;
 mod rates;
@@ -68,6 +69,7 @@ fn answer(block: &[u8]) {
         b'R' => rates::many(given),
         b'x' => formats::call(given),
         b't' => cadences::call(given),
+        b'g' => histograms::call(given),
         _ => (),
     }
     say::end();

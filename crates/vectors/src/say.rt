@@ -89,14 +89,25 @@ pub fn bits(v: i32) -> u64 {
 
 // Puts a number's eight bytes into a log from a place on, and answers the place after them.
 pub fn log(room: &mut [u8], at: usize, n: u64) -> usize {
-    let mut left = 8;
+    last_bytes(room, at, n, 8);
+    if at < 1048576 { at + 8 } else { at }
+}
+
+// Puts a word's four bytes into a log from a place on, and answers the place after them.
+pub fn log_word(room: &mut [u8], at: usize, word: u32) -> usize {
+    last_bytes(room, at, word as u64, 4);
+    if at < 1048576 { at + 4 } else { at }
+}
+
+// Puts so many of a number's last bytes into a log from a place on.
+fn last_bytes(room: &mut [u8], at: usize, n: u64, size: usize) {
+    let mut left = size;
     let mut rest = n;
     while 0 < left {
         left -= 1;
         put(room, at, left, (rest % 256) as u8);
         rest /= 256;
     }
-    if at < 1048576 { at + 8 } else { at }
 }
 
 // Puts a byte into a log, where there is room.

@@ -1,17 +1,17 @@
--- `vectors::log` is safe and ends.
+-- `vectors::last_bytes` is safe and ends.
 -- Assumes nothing.
 use Prim.Native.Nat.{_-_, _≤_}
 use mathlib.Core.Path.{_≡_}
 use borrow.Author.Needs.{needs}
 use lib.ListN.{length}
-use Rattle.vectors.proofs.say.log.Statement.{statement}
-use Rattle.vectors.proofs.say.log.Tie as tie
+use Rattle.vectors.proofs.say.last_bytes.Statement.{statement}
+use Rattle.vectors.proofs.say.last_bytes.Tie as tie
 
 abbrev Inv-loop : tie.InvT-loop
-Inv-loop room₀ at n left₀ rest₀ room left rest = (left ≤ 8) × (length room ≡ length room₀)
+Inv-loop room₀ at n size left₀ rest₀ room left rest = (left ≤ size) × (length room ≡ length room₀)
 
 abbrev μ-loop : tie.MeasureT-loop
-μ-loop room₀ at n left₀ rest₀ room left rest = left
+μ-loop room₀ at n size left₀ rest₀ room left rest = left
 
 loop-holds : tie.Need-loop-holds Inv-loop μ-loop
 loop-holds c = search needs
@@ -31,23 +31,14 @@ loop-less c = search needs
 loop-again : tie.Need-loop-again Inv-loop μ-loop
 loop-again c = search needs
 
-add-result : tie.Need-add-result Inv-loop μ-loop
-add-result c = search needs
-
 same-length : tie.Need-same-length Inv-loop μ-loop
 same-length c = search needs
 
 returns : tie.Need-returns Inv-loop μ-loop
 returns c = search needs
 
-same-length-2 : tie.Need-same-length-2 Inv-loop μ-loop
-same-length-2 c = search needs
-
-returns-2 : tie.Need-returns-2 Inv-loop μ-loop
-returns-2 c = search needs
-
-pub log-spec : {M : Type 1} → statement M
-log-spec =
+pub last-bytes-spec : {M : Type 1} → statement M
+last-bytes-spec =
     tie.close
     (tie.spec
     Inv-loop
@@ -58,8 +49,5 @@ log-spec =
     put-requires
     loop-less
     loop-again
-    add-result
     same-length
-    returns
-    same-length-2
-    returns-2)
+    returns)
