@@ -30,34 +30,43 @@ use Rattle.lines.specs.Texts.{Put, put-then, put-fits}
 -- ---- what is known of a line
 
 module _ (s : Line) where
+  -- a line with no digit is not good
   pub none-yet : s .other ≡ false → s .digits < 1 → false ≡ sound s
   none-yet o h = rw (o, lt-leb 1 (s .digits) h)
 
+  -- a line with digits is good where its number is in range
   pub in-range : s .other ≡ false → 1 ≤ s .digits → leb (s .value) largest ≡ sound s
   in-range o h = rw (o, le-leb 1 (s .digits) h)
 
+  -- a good line has a number in range
   pub sound-value : sound s ≡ true → s .value ≤ largest
   sound-value e =
       leb-true (s .value) largest
       (both-hold {a = leb 1 (s .digits)} {b = leb (s .value) largest} (both-hold {a = not (s .other)} {b = leb 1 (s .digits) && leb (s .value) largest} e .1) .1)
 
+  -- the number of a line with a minus
   pub known-minus : s .minus ≡ true → s .value ≤ largest → toZ w32 (ofZ w32 (pos 0 -ℤ toZ w32 (s .value))) ≡ known s
   known-minus e h = minus 1 (s .value) (λ z. omega arith) h ∙ ap (λ (b : Bool). pick b (negℤ (pos (s .value))) (pos (s .value))) (sym e)
 
+  -- the number of a line without one
   pub known-plus : s .minus ≡ false → s .value ≤ largest → toZ w32 (s .value) ≡ known s
   known-plus e h = plus 0 (s .value) refl h ∙ ap (λ (b : Bool). pick b (negℤ (pos (s .value))) (pos (s .value))) (sym e)
 
+  -- a negated number keeps its magnitude
   abs-neg : (n : ℕ) → natAbs (negℤ (pos n)) ≡ n
   abs-neg zero = refl
   abs-neg (suc n) = refl
 
+  -- the magnitude of the number of a line
   abs-known : (b : Bool) → natAbs (pick b (negℤ (pos (s .value))) (pos (s .value))) ≡ s .value
   abs-known true = abs-neg (s .value)
   abs-known false = refl
 
+  -- the number of a good line is in range
   pub known-small : {z : ℤ} → z ≡ known s → sound s ≡ true → natAbs z ≤ largest
   known-small {z} e h = subst (λ (n : ℕ). n ≤ largest) (sym (ap natAbs e ∙ abs-known (s .minus))) (sound-value h)
 
+  -- a good line is answered by its number
   pub answer-good : {room after : List ℕ} {at r : ℕ} (w z : ℤ) → w ≡ z → z ≡ known s → sound s ≡ true → Put room at (numberText w) r after
       → Put room at (answerOf s) r after
   unfolding answerOf
@@ -65,6 +74,7 @@ module _ (s : Line) where
       subst (λ (l : List ℕ). Put room at l r after)
       (ap numberText (e ∙ f) ∙ ap (λ (b : Bool). pick b (numberText (known s)) refusedText) (sym h)) p
 
+  -- any other line is answered by the refusal
   pub answer-refused : {room after : List ℕ} {at r : ℕ} → sound s ≡ false → Put room at refusedText r after → Put room at (answerOf s) r after
   unfolding answerOf
   answer-refused {room} {after} {at} {r} h p =
@@ -72,16 +82,20 @@ module _ (s : Line) where
 
   -- ---- what a byte does
 
+  -- a newline begins a fresh line
   pub newline-next : {b : ℕ} {t : Line} → b ≡ 10 → t ≡ fresh → t ≡ nextLine s b
   newline-next {b} e f = f ∙ ap (λ (x : Bool). pick x fresh (step s b)) (sym (eq-eqb b 10 e))
 
+  -- any other byte is one byte more
   pub other-next : {b : ℕ} {t : Line} → (b ≡ 10 → ⊥) → t ≡ step s b → t ≡ nextLine s b
   other-next {b} e f = f ∙ ap (λ (x : Bool). pick x fresh (step s b)) (sym (ne-eqb b 10 e))
 
+  -- a newline prints the answer
   pub newline-says : {room after : List ℕ} {at r b : ℕ} → b ≡ 10 → Put room at (answerOf s) r after → Put room at (says s b) r after
   newline-says {room} {after} {at} {r} {b} e p =
       subst (λ (l : List ℕ). Put room at l r after) (ap (λ (x : Bool). pick x (answerOf s) []) (sym (eq-eqb b 10 e))) p
 
+  -- any other byte prints nothing
   pub other-says : {room : List ℕ} {at b : ℕ} → (b ≡ 10 → ⊥) → Put room at (says s b) at room
   other-says {room} {at} {b} e =
       let empty : Put room at [] at room
@@ -92,6 +106,7 @@ module _ (s : Line) where
       } in
       subst (λ (l : List ℕ). Put room at l at room) (ap (λ (x : Bool). pick x (answerOf s) []) (sym (ne-eqb b 10 e))) empty
 
+-- a newline may go where 80 bytes are left
 pub go-newline : (b at size : ℕ) → b ≡ 10 → at ≤ size → leb 80 (size - at) ≡ not (waits size at b)
 go-newline b at size e h = rw (eq-eqb b 10 e) (go (ltb size (at + 80)) refl)
   where
@@ -99,6 +114,7 @@ go-newline b at size e h = rw (eq-eqb b 10 e) (go (ltb size (at + 80)) refl)
     go true t = let k : size < at + 80 = ltb-true size (at + 80) t in lt-leb 80 (size - at) (omega arith)
     go false t = let k : at + 80 ≤ size = ltb-false size (at + 80) t in le-leb 80 (size - at) (omega arith)
 
+-- any other byte may go
 pub go-other : (b at size : ℕ) → (b ≡ 10 → ⊥) → true ≡ not (waits size at b)
 go-other b at size e = rw (ne-eqb b 10 e)
 
@@ -119,9 +135,11 @@ newline-room b at size p q e =
 
 -- ---- the front of a room
 
+-- a room under 80 bytes gets no header
 pub header-short : {room : List ℕ} → length room < 80 → HeaderPromise room 0 room
 header-short {room} h = record { answer = rw (lt-ltb (length room) 80 h); memory = rw (lt-ltb (length room) 80 h) }
 
+-- a room of 80 bytes gets it
 pub header-put : {room after : List ℕ} {r : ℕ} → 80 ≤ length room → Put room 0 header r after → HeaderPromise room r after
 header-put {room} h p =
     record {
@@ -129,6 +147,7 @@ header-put {room} h p =
       memory = p .memory ∙ ap (λ (x : Bool). pick x room (put room 0 header)) (sym (le-ltb (length room) 80 h));
     }
 
+-- a room under 80 bytes gets no answer
 pub answer-short : {line : Line} {room : List ℕ} → length room < 80 → AnswerPromise line room 0 room
 answer-short {line} {room} h =
     record {
@@ -136,6 +155,7 @@ answer-short {line} {room} h =
       memory = ap (λ (x : Bool). pick x room (put room 0 (answerOf line))) (sym (lt-ltb (length room) 80 h));
     }
 
+-- a room of 80 bytes gets it
 pub answer-put : {line : Line} {room after : List ℕ} {r : ℕ} → 80 ≤ length room → Put room 0 (answerOf line) r after → AnswerPromise line room r after
 answer-put {line} {room} {after} {r} h p =
     let many : r ≡ length (answerOf line) = omega (arith, p .place) in
@@ -155,6 +175,7 @@ pub record Running (room₀ input : List ℕ) (line₀ : Line) (room : List ℕ)
   pub long : length room ≡ length room₀
   pub inside : used ≤ length input
 
+-- a run begins
 pub running-start : (room input : List ℕ) (line : Line) → Running room input line room line 0 0
 running-start room input line =
     record { text = []; so-far = refl; stands = record { memory = refl; place = refl; long = refl }; fits = zero-le; long = refl; inside = zero-le }
@@ -172,17 +193,21 @@ unfolding goes
 goes-ends size s b bs e =
     ap (λ (x : Bool). pick x s (goes size (record { line = nextLine (s .line) b; used = s .used + 1; text = s .text ++ says (s .line) b }) bs)) e
 
+-- a run over nothing stays where it stands
 goes-none : (size : ℕ) (s : Stand) → goes size s [] ≡ s
 unfolding goes
 goes-none size s = refl
 
 module _ {room₀ input room : List ℕ} {line₀ line : Line} {used at : ℕ} (p : Running room₀ input line₀ room line used at) where
+  -- the place is the length of the text
   many : at ≡ length (p .text)
   many = omega (arith, p .stands .place)
 
+  -- the byte that comes next
   here : used < length input → drop used input ≡ getD input used 0 ∷ drop (used + 1) input
   here h = drop-cons input used 0 h ∙ ap (λ (n : ℕ). getD input used 0 ∷ drop n input) (sym (add-one used))
 
+  -- one byte more
   pub running-more : {after : List ℕ} {next : Line} {r : ℕ} {t : Bool} → used < length input
       → t ≡ not (waits (length room) at (getD input used 0)) → t ≡ true
       → Put room at (says line (getD input used 0)) r after → next ≡ nextLine line (getD input used 0)
@@ -205,6 +230,7 @@ module _ {room₀ input room : List ℕ} {line₀ line : Line} {used at : ℕ} (
         inside = omega arith;
       }
 
+  -- where the run ends is the outcome
   ended : record { line = line; used = used; text = p .text } ≡ ranOver (length room₀) line₀ input
       → RunPromise line₀ input room₀ (record { line = line; used = used; put = at }) room
   ended e =
@@ -215,6 +241,7 @@ module _ {room₀ input room : List ℕ} {line₀ line : Line} {used at : ℕ} (
         memory = p .stands .memory ∙ ap (λ (s : Stand). put room₀ 0 (s .text)) e;
       }
 
+  -- it ends before a newline that waits
   pub running-waits : {t : Bool} → used < length input → t ≡ not (waits (length room) at (getD input used 0)) → t ≡ false
       → RunPromise line₀ input room₀ (record { line = line; used = used; put = at }) room
   running-waits h g k =
@@ -226,6 +253,7 @@ module _ {room₀ input room : List ℕ} {line₀ line : Line} {used at : ℕ} (
       ∙ ap (goes (length room₀) (record { line = line; used = used; text = p .text })) (sym (here h))
       ∙ p .so-far)
 
+  -- it ends at the end of the piece
   pub running-over : length input ≤ used → RunPromise line₀ input room₀ (record { line = line; used = used; put = at }) room
   running-over h =
       ended

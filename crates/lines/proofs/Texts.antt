@@ -39,9 +39,11 @@ at-map (x ∷ l) zero h = refl
 at-map (x ∷ l) (suc i) h = at-map l i (le-of-suc-le-suc h)
 
 module _ (bytes : List ℕ) (count : ℕ) (four : length bytes ≡ 4) (few : count ≤ 32) where
+  -- as many digits as bits
   pub bit-length : length (bitText bytes count) ≡ count
   bit-length = length-map (take count (bitsOf bytes)) (λ b. 48 + b) ∙ length-take-le count (bitsOf bytes) (omega (arith, length-bitsOf bytes))
 
+  -- each digit is its bit
   pub bit-at : (i : ℕ) → i < count → 48 + getD bytes (i / 8) 0 / 2 ^ (7 - i % 8) % 2 ≡ getD (bitText bytes count) i 0
   bit-at i h =
       let bits : count ≤ length (bitsOf bytes) = omega (arith, length-bitsOf bytes) in
@@ -64,6 +66,7 @@ put-one room at b h =
 
 -- ---- a number in shortest decimal
 
+-- the digit of a number under ten
 glyph-is : (d : ℕ) → d < 10 → glyph d ≡ 48 + d
 glyph-is d h = rw (lt-ltb d 10 h)
 
@@ -107,6 +110,7 @@ decimal-few {n} {k} f h = go (leb k 8) refl
         let top : 10 ^ 8 ≤ 10 ^ (k - 1) = pow-le-pow-right (zero-lt-suc 9) more in
         absurd (omega arith)
 
+-- the digits that were put are the shortest decimal
 pub decimal-put : {room text after : List ℕ} {at r n k : ℕ} → Fewest 10 1 n k → n < 100000000 → text ≡ digits 10 k n
     → Put room at text r after → Put room at (shortest 8 n) r after
 decimal-put {room} {text} {after} {at} {r} {n} {k} f h e p =
@@ -118,16 +122,19 @@ decimal-put {room} {text} {after} {at} {r} {n} {k} f h e p =
 pub few-digits : {n : ℕ} (w v : ℤ) → w ≡ v → n ≡ natAbs w → natAbs v ≤ largest → n < 100000000
 few-digits w v e m h = omega (arith, m, ap natAbs e)
 
+-- a value by its sign
 value-is : {n : ℕ} (w v : ℤ) → w ≡ v → n ≡ natAbs w → (b : Bool) → eqb (signOf w) 1 ≡ b
     → pick b (45 ∷ shortest 8 n) (shortest 8 n) ≡ valueText v
 value-is w v e m b t = ap₂ (λ (x : Bool) (k : ℕ). pick x (45 ∷ shortest 8 k) (shortest 8 k)) (sym t) m ∙ ap valueText e
 
+-- a minus and the decimal are the value
 pub value-minus : {room one after : List ℕ} {at next r s n : ℕ} (w v : ℤ) → w ≡ v → s ≡ signOf w → n ≡ natAbs w → s ≡ 1 → at ≤ length room
     → Put room at (45 ∷ []) next one → Put one next (shortest 8 n) r after → (Put room at (valueText v) r after) × (r ≤ at + 9)
 value-minus {room} {one} {after} {at} {next} {r} w v e sign m t h p q =
     let all = subst (λ (l : List ℕ). Put room at l r after) (value-is w v e m true (eq-eqb (signOf w) 1 (sym sign ∙ t))) (put-then p q (put-fits p h)) in
     (all, put-ends all (value-few v))
 
+-- the decimal alone is the value
 pub value-plus : {room after : List ℕ} {at r s n : ℕ} (w v : ℤ) → w ≡ v → s ≡ signOf w → n ≡ natAbs w → (s ≡ 1 → ⊥) → Put room at (shortest 8 n) r after
     → (Put room at (valueText v) r after) × (r ≤ at + 9)
 value-plus {room} {after} {at} {r} w v e sign m t p =
@@ -136,38 +143,47 @@ value-plus {room} {after} {at} {r} w v e sign m t p =
 
 -- ---- a code
 
+-- drop 0 and drop 3 are taken
 taken : {d : ℕ} → Drop d → dropTaken d ≡ true
 taken none = refl
 taken three = refl
 
 module _ {buffer left : List ℕ} {w v : ℤ} {d k : ℕ} {packed : Packed} (four : length buffer ≡ 4) (e : w ≡ v) (small : natAbs v ≤ largest) (dr : Drop d)
     (p : PackPromise buffer 0 w d packed left) (n : k ≡ nextOf (packedPaper packed)) where
+  -- four bytes have room for a code
   with-room : 0 + length (codeOf d v) ≤ length (counted buffer)
   with-room = omega (arith, length-counted buffer, code-few d v dr small)
 
+  -- the code stands in the bytes
   leaves : left ≡ bytesWith buffer 0 (codeOf d v)
   leaves = p .memory ∙ ap (λ (z : ℤ). packLeaves buffer 0 z d) e ∙ packs buffer 0 v d (taken dr) small with-room .1
 
+  -- the next position is the length of the code
   pub code-next : k ≡ length (codeOf d v)
   code-next =
       n ∙ ap nextOf (p .answer ∙ ap (λ (z : ℤ). packMeans buffer 0 z d) e ∙ packs buffer 0 v d (taken dr) small with-room .0) ∙ zero-add (length (codeOf d v))
 
+  -- the bytes are still four
   pub code-left : length left ≡ 4
   code-left = ap length leaves ∙ length-bytesFrom (length buffer) (putAt (bitsOf buffer) 0 (codeOf d v)) ∙ four
 
+  -- the first bits are the code
   code-bits : bitText left k ≡ codeText d v
   code-bits =
       ap₂ bitText leaves code-next
       ∙ ap (map (λ b. 48 + b)) (put-stands buffer 0 (codeOf d v) with-room (allBits-shape d (shapeOfNumber d v) (number-valid d v dr small)))
 
+  -- what putting the bits asks
   pub code-asks : (at size : ℕ) → at + 32 ≤ size → (at + k ≤ size) × (k ≤ 32) × (length left ≡ 4)
   code-asks at size h = (omega (arith, code-next, code-few d v dr small), omega (arith, code-next, code-few d v dr small), code-left)
 
+  -- the bits that were put are the code
   pub code-put : {room after : List ℕ} {at r : ℕ} → Put room at (bitText left k) r after → Put room at (codeText d v) r after
   code-put {room} {after} {at} {r} q = subst (λ (l : List ℕ). Put room at l r after) code-bits q
 
 -- ---- a line of a number
 
+-- a space and a code are put
 pub spaced-put : {room one after : List ℕ} {at m r d : ℕ} (w v : ℤ) → w ≡ v → natAbs v ≤ largest → Drop d → at ≤ length room
     → Put room at (32 ∷ []) m one → Put one m (codeText d w) r after → (Put room at (32 ∷ codeText d v) r after) × (r ≤ at + 28)
 spaced-put {room} {one} {after} {at} {m} {r} {d} w v e small dr h p q =
@@ -175,6 +191,7 @@ spaced-put {room} {one} {after} {at} {m} {r} {d} w v e small dr h p q =
     let few : length (32 ∷ codeText d v) ≤ 28 = omega (arith, code-text-few d v dr small) in
     (all, put-ends all few)
 
+-- value, both codes and the newline are put
 pub number-put : {room one two three after : List ℕ} {at k l m r : ℕ} (w v : ℤ) → w ≡ v → at ≤ length room
     → Put room at (valueText w) k one → Put one k (32 ∷ codeText 0 w) l two → Put two l (32 ∷ codeText 3 w) m three → Put three m (10 ∷ []) r after
     → Put room at (numberText v) r after

@@ -69,6 +69,7 @@ pub record Fair (size : ℕ) (s : Stand) (bs more : List ℕ) (r : Stand) : Type
   pub within : left ≤ length bs
   pub same : r .text ++ answersFrom (r .line) (drop left bs ++ more) ≡ s .text ++ answersFrom (s .line) (bs ++ more)
 
+-- a run over a piece is fair
 pub fair : (size : ℕ) (s : Stand) (bs more : List ℕ) → Fair size s bs more (goes size s bs)
 unfolding goes answersFrom
 fair size s [] more = record { left = 0; used = omega arith; within = zero-le; same = refl }
