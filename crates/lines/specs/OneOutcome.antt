@@ -9,21 +9,21 @@ use Rattle.lines.specs.declared.Ran.{Ran}
 use Rattle.lines.specs.Promise.{FreshPromise, TakenPromise, HeaderPromise, AnswerPromise, RunPromise}
 
 -- `fresh_line` has one outcome
-pub one-fresh : {r s : Line} → FreshPromise r → FreshPromise s → r ≡ s
-one-fresh p q = one-value (p .answer) (q .answer)
+pub fresh-one : {r s : Line} → FreshPromise r → FreshPromise s → r ≡ s
+fresh-one p q = one-value (p .answer) (q .answer)
 
 -- `taken` has one outcome
-pub one-taken : {line : Line} {byte : ℕ} {r s : Line} → TakenPromise line byte r → TakenPromise line byte s → r ≡ s
-one-taken p q = one-value (p .answer) (q .answer)
+pub taken-one : {line : Line} {byte : ℕ} {r s : Line} → TakenPromise line byte r → TakenPromise line byte s → r ≡ s
+taken-one p q = one-value (p .answer) (q .answer)
 
 -- `put_header` has one outcome: answer and memory
-pub one-header : {room : List ℕ} {r s : ℕ} {m n : List ℕ} → HeaderPromise room r m → HeaderPromise room s n → (r ≡ s) × (m ≡ n)
-one-header p q = (one-value (p .answer) (q .answer), one-value (p .memory) (q .memory))
+pub header-one : {room : List ℕ} {r s : ℕ} {m n : List ℕ} → HeaderPromise room r m → HeaderPromise room s n → (r ≡ s) × (m ≡ n)
+header-one p q = (one-value (p .answer) (q .answer), one-value (p .memory) (q .memory))
 
 -- `put_answer` has one outcome: answer and memory
-pub one-put-answer : {line : Line} {room : List ℕ} {r s : ℕ} {m n : List ℕ} → AnswerPromise line room r m → AnswerPromise line room s n
+pub put-answer-one : {line : Line} {room : List ℕ} {r s : ℕ} {m n : List ℕ} → AnswerPromise line room r m → AnswerPromise line room s n
     → (r ≡ s) × (m ≡ n)
-one-put-answer p q = (one-value (p .answer) (q .answer), one-value (p .memory) (q .memory))
+put-answer-one p q = (one-value (p .answer) (q .answer), one-value (p .memory) (q .memory))
 
 -- three fields that agree
 same-ran : (r s : Ran) → r .line ≡ s .line → r .used ≡ s .used → r .put ≡ s .put → r ≡ s
@@ -32,7 +32,7 @@ same-ran r s a b c =
     ∙ ap₂ (λ (m n : ℕ). record { line = s .line; used = m; put = n }) b c
 
 -- `run` has one outcome: line, bytes used, bytes put, and memory
-pub one-run : {line : Line} {input room : List ℕ} {r s : Ran} {m n : List ℕ} → RunPromise line input room r m → RunPromise line input room s n
+pub run-one : {line : Line} {input room : List ℕ} {r s : Ran} {m n : List ℕ} → RunPromise line input room r m → RunPromise line input room s n
     → (r ≡ s) × (m ≡ n)
-one-run {r = r} {s = s} p q =
+run-one {r = r} {s = s} p q =
     (same-ran r s (one-value (p .state) (q .state)) (one-value (p .used) (q .used)) (one-value (p .answer) (q .answer)), one-value (p .memory) (q .memory))
