@@ -1,3 +1,6 @@
-pub mod Table
 pub mod Xor
 pub mod Linear
+pub mod Root
+pub mod Sixteen
+pub mod Folds
+pub mod Reading

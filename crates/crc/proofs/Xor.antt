@@ -1,10 +1,10 @@
 -- Exclusive or is associative, and two sums of it exchange their middle parts.
 -- Assumes nothing.
 use mathlib.Core.Path.{_≡_, refl, sym, ap, ap₂, _∙_}
-use Prim.Native.Nat.{ℕ, zero, suc, _+_, _*_, _/_, _%_, _<_, _≤_, suc-le-suc, zero-le}
+use Prim.Native.Nat.{ℕ, zero, suc, _+_, _*_, _/_, _%_, _<_}
 use native.Mathlib.Nat.{not-suc-le-zero, le-of-suc-le-suc, mod-lt, zero-lt-suc}
 use lib.Arith.{bin-ind, digits-div, digits-mod}
-use lib.Bits.{bitXor, differ, xor-step, xor-comm, xor-zero-l}
+use lib.Bits.{bitXor, differ, xor-step, xor-comm, xor-zero-l, xor-zero-r, xor-self}
 
 -- a digit is 0 or 1
 differ-lt : (x y : ℕ) → x < 2 → y < 2 → differ x y < 2
@@ -64,3 +64,13 @@ xor-middle a b c d =
     xor-assoc a b (bitXor c d)
     ∙ ap (λ (x : ℕ). bitXor a x) (sym (xor-assoc b c d) ∙ ap (λ (x : ℕ). bitXor x d) (xor-comm b c) ∙ xor-assoc c b d)
     ∙ sym (xor-assoc a c (bitXor b d))
+
+-- what two sums share falls out
+pub xor-shared : (a b c : ℕ) → bitXor (bitXor a b) (bitXor b c) ≡ bitXor a c
+xor-shared a b c =
+    xor-assoc a b (bitXor b c)
+    ∙ ap (λ (x : ℕ). bitXor a x) (sym (xor-assoc b b c) ∙ ap (λ (x : ℕ). bitXor x c) (xor-self b) ∙ xor-zero-l c)
+
+-- what is added twice falls out
+pub xor-twice : (a b : ℕ) → bitXor (bitXor a b) b ≡ a
+xor-twice a b = xor-assoc a b b ∙ ap (λ (x : ℕ). bitXor a x) (xor-self b) ∙ xor-zero-r a

@@ -17,11 +17,11 @@ pub shift-lt : (a : ℕ) → shift a < 2 ^ 16
 unfolding shift
 shift-lt a = xor-lt 16 (a * 2 % 2 ^ 16) (polynomial (a / 2 ^ 15)) (mod-lt (a * 2) (pow-pos 16)) (polynomial-lt (a / 2 ^ 15))
 
-shifts-lt : (k a : ℕ) → a < 2 ^ 16 → shifts k a < 2 ^ 16
+pub shifts-lt : (k a : ℕ) → a < 2 ^ 16 → shifts k a < 2 ^ 16
 shifts-lt zero a h = h
 shifts-lt (suc k) a h = shifts-lt k (shift a) (shift-lt a)
 
-step-lt : (r b : ℕ) → step r b < 2 ^ 16
+pub step-lt : (r b : ℕ) → step r b < 2 ^ 16
 unfolding step
 step-lt r b = shifts-lt 7 (shift (bitXor r (b * 2 ^ 8))) (shift-lt (bitXor r (b * 2 ^ 8)))
 

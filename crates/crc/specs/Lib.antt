@@ -1,5 +1,5 @@
 pub mod Meaning
 pub mod Laws
-pub mod Entries
+pub mod Folding
 pub mod Promise
 pub mod OneOutcome

@@ -1,47 +1,164 @@
 // The checksum of packets and messages (document 01, "Packets and messages"; 000, 2.4.1).
 ghost use mathlib.Core.Path.{_≡_};
-ghost use Prim.Native.Nat.{_/_, _^_, _<_};
-ghost use lib.Bits.{bitXor};
+ghost use Prim.Native.Nat.{_+_, _*_, _/_, _%_, _^_, _<_, _≤_};
+ghost use lib.ListN.{length, drop};
 ghost use Rattle.crc.specs.Meaning.{step, run};
 ghost use Rattle.crc.specs.Promise.{ChecksumPromise};
-ghost use Rattle.crc.specs.Entries.{Entries};
+ghost use Rattle.crc.specs.Folding.{sixteen, carryOf, spreadOf, taken, stand, Pair, Word};
+
+// Sixteen bytes that stand for all bytes so far: they take the register from 0 to where those take it.
+struct Window {
+    first: u32,
+    second: u32,
+    third: u32,
+    fourth: u32,
+}
 
 // The checksum of bytes: every slice has one, and the empty slice has 0xffff.
 pub fn checksum(bytes: &[u8]) -> u16
     ensures { λ r. ⌜ ChecksumPromise (now (bytes .entry)) r ⌝ }
 {
-    over(&ENTRIES, bytes)
+    if bytes.len() < 16 {
+        return rest(bytes, 0, 0xffff);
+    }
+    long(bytes)
 }
 
-// The register after every byte, by a table that is lent once.
-fn over(table: &[u16; 256], bytes: &[u8]) -> u16
-    requires { ⌜ Entries (now table) ⌝ }
+// The register after sixteen bytes and more, four bytes at a time.
+fn long(bytes: &[u8]) -> u16
+    requires { ⌜ 16 ≤ length (now bytes) ⌝ }
     ensures { λ r. ⌜ r ≡ run 0xffff (now (bytes .entry)) ⌝ }
 {
-    let mut register = 0xffff;
-    let mut i = 0;
+    let mut window = opened(bytes);
+    let mut i = 16;
+    while 4 <= bytes.len() - i {
+        window = folded(window, word(bytes, i));
+        i += 4;
+    }
+    rest(bytes, i, closed(window))
+}
+
+// The register after the bytes from a place on, one at a time.
+fn rest(bytes: &[u8], at: usize, register: u16) -> u16
+    requires { ⌜ at ≤ length (now bytes) ⌝ }
+    ensures { λ r. ⌜ r ≡ run register (drop at (now (bytes .entry))) ⌝ }
+{
+    let mut kept = register;
+    let mut i = at;
     while i < bytes.len() {
-        register = stepped(table, register, bytes[i]);
+        kept = stepped(kept, bytes[i]);
         i += 1;
     }
-    register
+    kept
+}
+
+// The window of the first sixteen bytes, the register's start added to the first two.
+fn opened(bytes: &[u8]) -> Window
+    requires { ⌜ 16 ≤ length (now bytes) ⌝ }
+    ensures { λ r. ⌜ run (stand (r .first) (r .second) (r .third) (r .fourth)) (drop 16 (now (bytes .entry))) ≡ run 0xffff (now (bytes .entry)) ⌝ }
+{
+    Window {
+        first: started(word(bytes, 0)),
+        second: word(bytes, 4),
+        third: word(bytes, 8),
+        fourth: word(bytes, 12),
+    }
+}
+
+// The first word with the register's start.
+fn started(word: u32) -> u32
+    ensures { λ r. ⌜ taken 0 r ≡ taken 0xffff word ⌝ }
+{
+    word ^ 0xffff0000
+}
+
+// The window one word further: its first word moves to the places that the polynomial's eighth power names.
+fn folded(window: Window, word: u32) -> Window
+    ensures { λ r. ⌜ stand (r .first) (r .second) (r .third) (r .fourth) ≡ taken (stand (window .first) (window .second) (window .third) (window .fourth)) word ⌝ }
+{
+    Window {
+        first: window.second ^ window.first,
+        second: window.third ^ top(window.first),
+        third: window.fourth ^ below_top(window.first),
+        fourth: word ^ window.first,
+    }
+}
+
+// The first byte of a word.
+fn top(word: u32) -> u32
+    ensures { λ r. ⌜ r ≡ word / 2 ^ 24 ⌝ }
+{
+    word / 0x1000000
+}
+
+// The other three bytes of a word, moved up by one byte.
+fn below_top(word: u32) -> u32
+    ensures { λ r. ⌜ r ≡ word % 2 ^ 24 * 2 ^ 8 ⌝ }
+{
+    word % 0x1000000 * 256
+}
+
+// The register after the bytes that a window stands for.
+fn closed(window: Window) -> u16
+    ensures { λ r. ⌜ r ≡ stand (window .first) (window .second) (window .third) (window .fourth) ⌝ }
+{
+    let first = through(0, window.first);
+    let second = through(first, window.second);
+    let third = through(second, window.third);
+    through(third, window.fourth)
+}
+
+// The register after the four bytes of a word.
+fn through(register: u16, word: u32) -> u16
+    ensures { λ r. ⌜ r ≡ taken register word ⌝ }
+{
+    let half = shifted(register ^ high(word));
+    shifted(half ^ low(word))
+}
+
+// The first two bytes of a word.
+fn high(word: u32) -> u16
+    ensures { λ r. ⌜ r ≡ word / 2 ^ 16 ⌝ }
+{
+    (word / 65536) as u16
+}
+
+// The last two bytes of a word.
+fn low(word: u32) -> u16
+    ensures { λ r. ⌜ r ≡ word % 2 ^ 16 ⌝ }
+{
+    (word % 65536) as u16
+}
+
+// The word of four bytes at a place.
+fn word(bytes: &[u8], at: usize) -> u32
+    requires { ⌜ at + 4 ≤ length (now bytes) ⌝ }
+    ensures { λ r. ⌜ Word (now (bytes .entry)) at r ⌝ }
+{
+    pair(bytes, at) * 65536 + pair(bytes, at + 2)
+}
+
+// The number of two bytes at a place.
+fn pair(bytes: &[u8], at: usize) -> u32
+    requires { ⌜ at + 2 ≤ length (now bytes) ⌝ }
+    ensures { λ r. ⌜ Pair (now (bytes .entry)) at r ⌝ }
+{
+    wide(bytes[at]) * 256 + wide(bytes[at + 1])
+}
+
+// A byte as a word.
+fn wide(byte: u8) -> u32
+    ensures { λ r. ⌜ (r ≡ byte) × (r < 256) ⌝ }
+{
+    byte as u32
 }
 
 // The register after one byte more.
-fn stepped(table: &[u16; 256], register: u16, byte: u8) -> u16
-    requires { ⌜ Entries (now table) ⌝ }
+fn stepped(register: u16, byte: u8) -> u16
     ensures { λ r. ⌜ r ≡ step register byte ⌝ }
 {
-    let at = place(register, byte);
-    table[at] ^ (register % 256 * 256)
-}
-
-// The table's place for a byte: the register's upper half with the byte.
-fn place(register: u16, byte: u8) -> usize
-    ensures { λ r. ⌜ (r ≡ bitXor (register / 2 ^ 8) byte) × (r < 256) ⌝ }
-{
     let half = upper(register);
-    (half ^ (byte as u16)) as usize
+    shifted(half ^ (byte as u16)) ^ (register % 256 * 256)
 }
 
 // The upper half of the register.
@@ -51,262 +168,26 @@ fn upper(register: u16) -> u16
     register / 256
 }
 
-// What eight bits make of a register whose upper byte is the index and whose lower byte is 0.
-const ENTRIES: [u16; 256] = [
-    0x0000,
-    0x1021,
-    0x2042,
-    0x3063,
-    0x4084,
-    0x50a5,
-    0x60c6,
-    0x70e7,
-    0x8108,
-    0x9129,
-    0xa14a,
-    0xb16b,
-    0xc18c,
-    0xd1ad,
-    0xe1ce,
-    0xf1ef,
-    0x1231,
-    0x0210,
-    0x3273,
-    0x2252,
-    0x52b5,
-    0x4294,
-    0x72f7,
-    0x62d6,
-    0x9339,
-    0x8318,
-    0xb37b,
-    0xa35a,
-    0xd3bd,
-    0xc39c,
-    0xf3ff,
-    0xe3de,
-    0x2462,
-    0x3443,
-    0x0420,
-    0x1401,
-    0x64e6,
-    0x74c7,
-    0x44a4,
-    0x5485,
-    0xa56a,
-    0xb54b,
-    0x8528,
-    0x9509,
-    0xe5ee,
-    0xf5cf,
-    0xc5ac,
-    0xd58d,
-    0x3653,
-    0x2672,
-    0x1611,
-    0x0630,
-    0x76d7,
-    0x66f6,
-    0x5695,
-    0x46b4,
-    0xb75b,
-    0xa77a,
-    0x9719,
-    0x8738,
-    0xf7df,
-    0xe7fe,
-    0xd79d,
-    0xc7bc,
-    0x48c4,
-    0x58e5,
-    0x6886,
-    0x78a7,
-    0x0840,
-    0x1861,
-    0x2802,
-    0x3823,
-    0xc9cc,
-    0xd9ed,
-    0xe98e,
-    0xf9af,
-    0x8948,
-    0x9969,
-    0xa90a,
-    0xb92b,
-    0x5af5,
-    0x4ad4,
-    0x7ab7,
-    0x6a96,
-    0x1a71,
-    0x0a50,
-    0x3a33,
-    0x2a12,
-    0xdbfd,
-    0xcbdc,
-    0xfbbf,
-    0xeb9e,
-    0x9b79,
-    0x8b58,
-    0xbb3b,
-    0xab1a,
-    0x6ca6,
-    0x7c87,
-    0x4ce4,
-    0x5cc5,
-    0x2c22,
-    0x3c03,
-    0x0c60,
-    0x1c41,
-    0xedae,
-    0xfd8f,
-    0xcdec,
-    0xddcd,
-    0xad2a,
-    0xbd0b,
-    0x8d68,
-    0x9d49,
-    0x7e97,
-    0x6eb6,
-    0x5ed5,
-    0x4ef4,
-    0x3e13,
-    0x2e32,
-    0x1e51,
-    0x0e70,
-    0xff9f,
-    0xefbe,
-    0xdfdd,
-    0xcffc,
-    0xbf1b,
-    0xaf3a,
-    0x9f59,
-    0x8f78,
-    0x9188,
-    0x81a9,
-    0xb1ca,
-    0xa1eb,
-    0xd10c,
-    0xc12d,
-    0xf14e,
-    0xe16f,
-    0x1080,
-    0x00a1,
-    0x30c2,
-    0x20e3,
-    0x5004,
-    0x4025,
-    0x7046,
-    0x6067,
-    0x83b9,
-    0x9398,
-    0xa3fb,
-    0xb3da,
-    0xc33d,
-    0xd31c,
-    0xe37f,
-    0xf35e,
-    0x02b1,
-    0x1290,
-    0x22f3,
-    0x32d2,
-    0x4235,
-    0x5214,
-    0x6277,
-    0x7256,
-    0xb5ea,
-    0xa5cb,
-    0x95a8,
-    0x8589,
-    0xf56e,
-    0xe54f,
-    0xd52c,
-    0xc50d,
-    0x34e2,
-    0x24c3,
-    0x14a0,
-    0x0481,
-    0x7466,
-    0x6447,
-    0x5424,
-    0x4405,
-    0xa7db,
-    0xb7fa,
-    0x8799,
-    0x97b8,
-    0xe75f,
-    0xf77e,
-    0xc71d,
-    0xd73c,
-    0x26d3,
-    0x36f2,
-    0x0691,
-    0x16b0,
-    0x6657,
-    0x7676,
-    0x4615,
-    0x5634,
-    0xd94c,
-    0xc96d,
-    0xf90e,
-    0xe92f,
-    0x99c8,
-    0x89e9,
-    0xb98a,
-    0xa9ab,
-    0x5844,
-    0x4865,
-    0x7806,
-    0x6827,
-    0x18c0,
-    0x08e1,
-    0x3882,
-    0x28a3,
-    0xcb7d,
-    0xdb5c,
-    0xeb3f,
-    0xfb1e,
-    0x8bf9,
-    0x9bd8,
-    0xabbb,
-    0xbb9a,
-    0x4a75,
-    0x5a54,
-    0x6a37,
-    0x7a16,
-    0x0af1,
-    0x1ad0,
-    0x2ab3,
-    0x3a92,
-    0xfd2e,
-    0xed0f,
-    0xdd6c,
-    0xcd4d,
-    0xbdaa,
-    0xad8b,
-    0x9de8,
-    0x8dc9,
-    0x7c26,
-    0x6c07,
-    0x5c64,
-    0x4c45,
-    0x3ca2,
-    0x2c83,
-    0x1ce0,
-    0x0cc1,
-    0xef1f,
-    0xff3e,
-    0xcf5d,
-    0xdf7c,
-    0xaf9b,
-    0xbfba,
-    0x8fd9,
-    0x9ff8,
-    0x6e17,
-    0x7e36,
-    0x4e55,
-    0x5e74,
-    0x2e93,
-    0x3eb2,
-    0x0ed1,
-    0x1ef0,
-];
+// The register after sixteen bits: each turn adds what the polynomial makes of it, and carries on with what fell out.
+fn shifted(register: u16) -> u16
+    ensures { λ r. ⌜ r ≡ sixteen register ⌝ }
+{
+    let first = carry(register);
+    let second = carry(first);
+    let third = carry(second);
+    spread(register ^ first ^ second ^ third)
+}
+
+// What falls out of the register where the polynomial's terms are added, each at its place.
+fn carry(register: u16) -> u16
+    ensures { λ r. ⌜ r ≡ carryOf register ⌝ }
+{
+    (register / 16) ^ (register / 2048)
+}
+
+// What stays in the register where the polynomial's terms are added.
+fn spread(register: u16) -> u16
+    ensures { λ r. ⌜ r ≡ spreadOf register ⌝ }
+{
+    (register % 16 * 4096) ^ (register % 2048 * 32) ^ register
+}

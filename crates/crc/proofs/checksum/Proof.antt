@@ -1,34 +1,23 @@
--- `crc::checksum` meets its contract: the table's rule is a test at each of its 256 entries, which antt computes.
+-- `crc::checksum` meets its contract, for few bytes and for many.
 -- Assumes nothing.
-use mathlib.Core.Bool.{Bool}
-use mathlib.Core.List.{List}
-use mathlib.Core.Path.{_≡_, refl, subst}
-use Prim.Native.Nat.{ℕ, _*_, _^_, _<_}
-use lib.Dec.{T, eqb, eqb→eq}
-use lib.ListN.{length, getD}
-use Rattle.crc.specs.Meaning.{shift, shifts, checksumOf}
-use Rattle.crc.specs.Entries.{Entries}
-use Rattle.crc.proofs.Table.{every, at}
+use borrow.Author.Needs.{needs}
+use Rattle.crc.specs.Meaning.{checksumOf}
 use Rattle.crc.proofs.checksum.Statement.{statement}
 use Rattle.crc.proofs.checksum.Tie as tie
 
--- an entry is what eight bits make of its place
-right : ℕ → ℕ → Bool
-right k x = eqb x (shifts 8 (k * 2 ^ 8))
-
--- a table that passes the test at every place is a table of entries
-entries : (table : List ℕ) → T (every right 0 table) → 256 ≡ length table → Entries table
-unfolding right
-entries table t n =
-    record { right = λ k h. eqb→eq (getD table k 0) (shifts 8 (k * 2 ^ 8)) (at right table t k (subst (λ (m : ℕ). k < m) n h)) }
-
-over-requires : tie.Need-over-requires
-unfolding right shift
-over-requires c κs = entries _ tt refl
+rest-requires : tie.Need-rest-requires
+rest-requires c κs = search needs
 
 returns : tie.Need-returns
 unfolding checksumOf
-returns c = record { answer = c .over .ensures }
+returns c = record { answer = c .rest .ensures }
+
+long-requires : tie.Need-long-requires
+long-requires c κs = search needs
+
+returns-2 : tie.Need-returns-2
+unfolding checksumOf
+returns-2 c = record { answer = c .long .ensures }
 
 pub checksum-spec : {M : Type 1} → statement M
-checksum-spec = tie.close (tie.spec over-requires returns)
+checksum-spec = tie.close (tie.spec rest-requires returns long-requires returns-2)

@@ -1,0 +1,88 @@
+-- Bytes read two and four at once, and the window of the first sixteen.
+-- Assumes nothing.
+use mathlib.Core.Path.{_≡_, sym, ap, ap₂, _∙_}
+use mathlib.Core.List.{List}
+use Prim.Native.Nat.{ℕ, _+_, _*_, _/_, _%_, _^_, _<_, _≤_}
+use native.Mathlib.Nat.{add-assoc}
+use native.Mathlib.Numerals.{add-one}
+use native.Mathlib.Omega.{arith}
+use lib.Dec.{lit<}
+use lib.Pow.{high, low}
+use lib.Bits.{bitXor}
+use lib.ListN.{length, drop, getD, drop-of-length-le}
+use lib.Seq.{drop-cons}
+use Rattle.crc.specs.Meaning.{step, run}
+use Rattle.crc.specs.Folding.{sixteen, taken, stand, Pair, Word}
+use Rattle.crc.proofs.Sixteen.{sixteen-lt, two-steps}
+use Rattle.crc.proofs.Folds.{taken-lt, stand-lt}
+
+-- the register takes the next byte
+pub run-next : (r : ℕ) (l : List ℕ) (i : ℕ) → i < length l → run r (drop i l) ≡ run (step r (getD l i 0)) (drop (i + 1) l)
+run-next r l i h = rw (add-one, drop-cons l i 0)
+
+-- no byte is left
+pub run-done : (r : ℕ) (l : List ℕ) (i : ℕ) → length l ≤ i → r ≡ run r (drop i l)
+run-done r l i h = rw (drop-of-length-le l h)
+
+-- the number of two bytes takes a register where they take it
+pub pair-goes : (l : List ℕ) (i x y : ℕ) → i + 2 ≤ length l → x ≡ getD l i 0 → y ≡ getD l (i + 1) 0 → x < 256 → y < 256
+    → Pair l i (x * 256 + y)
+pair-goes l i x y h ex ey hx hy =
+    let first : i < length l = omega arith in
+    let second : i + 1 < length l = omega arith in
+    record {
+      small = omega arith;
+      goes = λ s hs.
+          run-next s l i first
+          ∙ run-next (step s (getD l i 0)) l (i + 1) second
+          ∙ ap₂ (λ (r n : ℕ). run r (drop n l))
+          (ap₂ (λ (a b : ℕ). step (step s a) b) (sym ex) (sym ey) ∙ two-steps s x y hs hx hy)
+          (add-assoc i 1 1);
+    }
+
+-- the word of two numbers takes a register where their bytes take it
+pub word-goes : (l : List ℕ) (i p q : ℕ) → Pair l i p → Pair l (i + 2) q → Word l i (p * 65536 + q)
+unfolding taken
+word-goes l i p q hp hq =
+    let up : p < 2 ^ 16 = hp .small in
+    let down : q < 2 ^ 16 = hq .small in
+    record {
+      small = omega arith;
+      goes = λ s hs.
+          hp .goes s hs
+          ∙ hq .goes (sixteen (bitXor s p)) (sixteen-lt (bitXor s p))
+          ∙ ap₂ (λ (r n : ℕ). run r (drop n l))
+          (ap₂ (λ (a b : ℕ). sixteen (bitXor (sixteen (bitXor s a)) b)) (sym (high p 16 down)) (sym (low p 16 down)))
+          (add-assoc i 2 2);
+    }
+
+-- the window of the first sixteen bytes
+pub opens : (l : List ℕ) (a b c d f : ℕ) → Word l 0 a → taken 0 f ≡ taken 0xffff a → Word l 4 b → Word l 8 c → Word l 12 d
+    → run (stand f b c d) (drop 16 l) ≡ run 0xffff l
+unfolding stand
+opens l a b c d f ha e hb hc hd =
+    ap (λ (r : ℕ). run (taken (taken (taken r b) c) d) (drop 16 l)) e
+    ∙ sym
+    (ha .goes 0xffff (lit< tt)
+    ∙ hb .goes (taken 0xffff a) (taken-lt 0xffff a)
+    ∙ hc .goes (taken (taken 0xffff a) b) (taken-lt (taken 0xffff a) b)
+    ∙ hd .goes (taken (taken (taken 0xffff a) b) c) (taken-lt (taken (taken 0xffff a) b) c))
+
+-- the window one word further
+pub goes-on : (l : List ℕ) (i w s a b c d r : ℕ) → Word l i w → s ≡ taken (stand a b c d) w → run (stand a b c d) (drop i l) ≡ r
+    → run s (drop (i + 4) l) ≡ r
+goes-on l i w s a b c d r h e inv =
+    ap (λ (x : ℕ). run x (drop (i + 4) l)) e ∙ sym (h .goes (stand a b c d) (stand-lt a b c d)) ∙ inv
+
+-- the register after the bytes that a window stands for
+pub closes : (a b c d p q r s : ℕ) → p ≡ taken 0 a → q ≡ taken p b → r ≡ taken q c → s ≡ taken r d → s ≡ stand a b c d
+unfolding stand
+closes a b c d p q r s ep eq er es =
+    es ∙ ap (λ (x : ℕ). taken x d) (er ∙ ap (λ (x : ℕ). taken x c) (eq ∙ ap (λ (x : ℕ). taken x b) ep))
+
+-- the register after a word, by its halves
+pub goes-through : (r w h l p q : ℕ) → h ≡ w / 2 ^ 16 → p ≡ sixteen (bitXor r h) → l ≡ w % 2 ^ 16 → q ≡ sixteen (bitXor p l)
+    → q ≡ taken r w
+unfolding taken
+goes-through r w h l p q eh ep el eq =
+    eq ∙ ap₂ (λ (x y : ℕ). sixteen (bitXor x y)) (ep ∙ ap (λ (x : ℕ). sixteen (bitXor r x)) eh) el

@@ -1,0 +1,32 @@
+-- `crc::closed` meets its contract: its four words one after the other.
+-- Assumes nothing.
+use Rattle.crc.proofs.Reading.{closes}
+use borrow.Author.Needs.{needs}
+use Rattle.crc.proofs.closed.Statement.{statement}
+use Rattle.crc.proofs.closed.Tie as tie
+
+through-requires : tie.Need-through-requires
+through-requires c κs = search needs
+
+through-requires-2 : tie.Need-through-requires-2
+through-requires-2 c κs = search needs
+
+through-requires-3 : tie.Need-through-requires-3
+through-requires-3 c κs = search needs
+
+through-requires-4 : tie.Need-through-requires-4
+through-requires-4 c κs = search needs
+
+returns : tie.Need-returns
+returns c =
+    let w = c .before .before .before .before .args .window in
+    let first = c .before .before .before .through in
+    let second = c .before .before .through2 in
+    let third = c .before .through3 in
+    closes (w .first) (w .second) (w .third) (w .fourth) (first .result) (second .result) (third .result) (c .through4 .result)
+    (first .ensures) (second .ensures) (third .ensures) (c .through4 .ensures)
+
+pub closed-spec : {M : Type 1} → statement M
+closed-spec =
+    tie.close
+    (tie.spec through-requires through-requires-2 through-requires-3 through-requires-4 returns)

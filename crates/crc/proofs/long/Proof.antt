@@ -1,0 +1,80 @@
+-- `crc::long` meets its contract. The loop's invariant: the window and the bytes that are left take the register to the whole answer.
+-- Assumes nothing.
+use Prim.Native.Nat.{ℕ, _≤_, _-_}
+use mathlib.Core.Path.{_≡_, ap, _∙_}
+use borrow.Author.Needs.{needs}
+use lib.ListN.{length, drop}
+use Rattle.crc.specs.Meaning.{run}
+use Rattle.crc.specs.Folding.{stand}
+use Rattle.crc.proofs.Reading.{goes-on}
+use Rattle.crc.proofs.long.Statement.{statement}
+use Rattle.crc.proofs.long.Tie as tie
+
+abbrev Inv-loop : tie.InvT-loop
+Inv-loop bytes window₀ i₀ window i =
+    (i ≤ length bytes) × (run (stand (window .first) (window .second) (window .third) (window .fourth)) (drop i bytes) ≡ run 0xffff bytes)
+
+abbrev μ-loop : tie.MeasureT-loop
+μ-loop bytes window₀ i₀ window i = length bytes - i
+
+opened-requires : tie.Need-opened-requires Inv-loop μ-loop
+opened-requires c κs = search needs
+
+loop-holds : tie.Need-loop-holds Inv-loop μ-loop
+loop-holds c = (search needs, c .opened .ensures)
+
+sub-loop : tie.Need-sub-loop Inv-loop μ-loop
+sub-loop c = search needs
+
+word-requires : tie.Need-word-requires Inv-loop μ-loop
+word-requires c κs = search needs
+
+folded-requires : tie.Need-folded-requires Inv-loop μ-loop
+folded-requires c κs = search needs
+
+add-i : tie.Need-add-i Inv-loop μ-loop
+add-i c = search needs
+
+loop-less : tie.Need-loop-less Inv-loop μ-loop
+loop-less c = search needs
+
+loop-again : tie.Need-loop-again Inv-loop μ-loop
+loop-again c =
+    let at = c .before .before .before in
+    let l = at .before .before .before .args .bytes .now in
+    let w = at .loop .window in
+    let next = c .before .word in (
+      search needs,
+      goes-on l (at .loop .i) (next .result) _ (w .first) (w .second) (w .third) (w .fourth) (run 0xffff l) (next .ensures) (c .folded .ensures)
+          (at .loop .inv .1),
+    )
+
+closed-requires : tie.Need-closed-requires Inv-loop μ-loop
+closed-requires c κs = search needs
+
+rest-requires : tie.Need-rest-requires Inv-loop μ-loop
+rest-requires c κs = search needs
+
+returns : tie.Need-returns Inv-loop μ-loop
+returns c =
+    let at = c .before .before .before in
+    let l = at .before .before .before .args .bytes .now in
+    c .rest .ensures ∙ ap (λ (r : ℕ). run r (drop (at .loop .i) l)) (c .before .closed .ensures) ∙ at .loop .inv .1
+
+pub long-spec : {M : Type 1} → statement M
+long-spec =
+    tie.close
+    (tie.spec
+    Inv-loop
+    μ-loop
+    opened-requires
+    loop-holds
+    sub-loop
+    word-requires
+    folded-requires
+    add-i
+    loop-less
+    loop-again
+    closed-requires
+    rest-requires
+    returns)
