@@ -1,0 +1,3 @@
+pub mod Saying
+pub mod Parts
+pub mod Leaving
