@@ -1,2 +1,7 @@
-// The C interface: every call of the library under a plain name, with document 01's refusal number as its result.
+// The C interface: every call of the library under a plain name, with document 01's refusal number as its result, 0 where
+// accepted. Further answers are written through lent places, and on a refusal these keep what they held.
+mod cadences;
+mod codes;
+mod formats;
+mod messages;
 mod packets;
