@@ -23,8 +23,8 @@ pub extern "C" fn plv_second_beginning(second: u16, level: &mut u8) -> u8
     ensures { λ r. ⌜ SecondBeginningPromise second (now (level .entry)) r (now (level .exit)) ⌝ }
 {
     match cadence::beginning(second) {
-        Level::At(highest) => {
-            *level = highest;
+        Level::At(begun) => {
+            *level = begun;
             0
         }
         Level::OutOfRange => 19,
@@ -37,8 +37,8 @@ pub extern "C" fn plv_second_ending(second: u16, level: &mut u8) -> u8
     ensures { λ r. ⌜ SecondEndingPromise second (now (level .entry)) r (now (level .exit)) ⌝ }
 {
     match cadence::ending(second) {
-        Level::At(highest) => {
-            *level = highest;
+        Level::At(ended) => {
+            *level = ended;
             0
         }
         Level::OutOfRange => 19,

@@ -29,7 +29,7 @@ pub extern "C" fn plv_code_pack(
     }
 }
 
-// The number of the code at a bit position, and the next position; 8, 9, 10, 11.
+// The number of the code at a bit position, and the next position; 8 to 11.
 #[no_mangle]
 pub extern "C" fn plv_code_unpack(
     bytes: &[u8],
@@ -43,10 +43,10 @@ pub extern "C" fn plv_code_unpack(
     match code::unpack(bytes, at, drop) {
         Unpacked::Number {
             value: number,
-            next: after,
+            next: past,
         } => {
             *value = number;
-            *next = after;
+            *next = past;
             0
         }
         Unpacked::OutsideRule => 8,
@@ -56,7 +56,7 @@ pub extern "C" fn plv_code_unpack(
     }
 }
 
-// The counts that the code at a bit position means, low and high, 1 where they are one exact count, and the next position; 8, 9, 10, 11.
+// The low and high count of the code at a bit position, 1 where they are one exact count, and the next position; 8 to 11.
 #[no_mangle]
 pub extern "C" fn plv_reading(
     bytes: &[u8],
@@ -72,19 +72,19 @@ pub extern "C" fn plv_reading(
     match rate::reading(bytes, at, drop) {
         Counted::Counts {
             reading,
-            next: after,
+            next: beyond,
         } => {
             *low = low_edge(reading);
             *high = high_edge(reading);
             *exact = is_exact(reading);
-            *next = after;
+            *next = beyond;
             0
         }
         Counted::Refused(why) => rate::refusal_number(why),
     }
 }
 
-// The rate of the code at a bit position over the seconds of a cadence level, its low and high quotient and those seconds, and the next position; 8, 9, 10, 11, 19.
+// The low and high rate of the code at a bit position over a cadence level, the seconds, and the next position; 8 to 11, 19.
 #[no_mangle]
 pub extern "C" fn plv_rate(
     bytes: &[u8],
@@ -99,11 +99,11 @@ pub extern "C" fn plv_rate(
     ensures { λ r. ⌜ RatePromise (now (bytes .entry)) at drop level (now (low .entry)) (now (high .entry)) (now (seconds .entry)) (now (next .entry)) r (now (low .exit)) (now (high .exit)) (now (seconds .exit)) (now (next .exit)) ⌝ }
 {
     match rate::rate(bytes, at, drop, level) {
-        Rated::Formed { rate, next: after } => {
+        Rated::Formed { rate, next: onward } => {
             *low = rate.low;
             *high = rate.high;
             *seconds = rate.seconds;
-            *next = after;
+            *next = onward;
             0
         }
         Rated::Refused(why) => rate::refusal_number(why),

@@ -12,8 +12,8 @@ pub extern "C" fn plv_float16_code(count: u64, code: &mut u16) -> u8
     ensures { λ r. ⌜ Float16Promise count (now (code .entry)) r (now (code .exit)) ⌝ }
 {
     match format::float16_code(count) {
-        Code16::Code(taken) => {
-            *code = taken;
+        Code16::Code(float16) => {
+            *code = float16;
             0
         }
         Code16::TooLarge => 12,
@@ -34,8 +34,8 @@ pub extern "C" fn plv_float8_code(count: u64, code: &mut u8) -> u8
     ensures { λ r. ⌜ Float8Promise count (now (code .entry)) r (now (code .exit)) ⌝ }
 {
     match format::float8_code(count) {
-        Code8::Code(taken) => {
-            *code = taken;
+        Code8::Code(float8) => {
+            *code = float8;
             0
         }
         Code8::TooLarge => 12,
@@ -56,8 +56,8 @@ pub extern "C" fn plv_int24_code(count: u64, code: &mut u32) -> u8
     ensures { λ r. ⌜ Int24CodePromise count (now (code .entry)) r (now (code .exit)) ⌝ }
 {
     match format::int24_code(count) {
-        Code24::Code(taken) => {
-            *code = taken;
+        Code24::Code(integer) => {
+            *code = integer;
             0
         }
         Code24::TooLarge => 12,

@@ -11,18 +11,18 @@ use Rattle.plavotesk.proofs.formats.plv_float16_code.Tie as tie
 float16-code-requires : tie.Need-float16-code-requires
 float16-code-requires c κs = search needs
 
-enum-known-taken : tie.Need-enum-known-taken
-enum-known-taken c = search needs
+enum-known-float16 : tie.Need-enum-known-float16
+enum-known-float16 c = search needs
 
 enum-told : tie.Need-enum-told
 enum-told c = search needs
 
 returns : tie.Need-returns
-returns c = float16-leaves _ _ (says code16Paper refl (c .before .taken .given .1)) (c .before .before .before .float16-code .ensures .answer)
+returns c = float16-leaves _ _ (says code16Paper refl (c .before .float16 .given .1)) (c .before .before .before .float16-code .ensures .answer)
 
 returns-2 : tie.Need-returns-2
 returns-2 c = float16-leaves _ _ (says code16Paper refl (c .enum-told .given .1)) (c .before .before .float16-code .ensures .answer)
 
 pub plv-float16-code-spec : {M : Type 1} → statement M
 plv-float16-code-spec =
-    tie.close (tie.spec float16-code-requires enum-known-taken enum-told returns returns-2)
+    tie.close (tie.spec float16-code-requires enum-known-float16 enum-told returns returns-2)

@@ -11,18 +11,18 @@ use Rattle.plavotesk.proofs.formats.plv_float8_code.Tie as tie
 float8-code-requires : tie.Need-float8-code-requires
 float8-code-requires c κs = search needs
 
-enum-known-taken : tie.Need-enum-known-taken
-enum-known-taken c = search needs
+enum-known-float8 : tie.Need-enum-known-float8
+enum-known-float8 c = search needs
 
 enum-told : tie.Need-enum-told
 enum-told c = search needs
 
 returns : tie.Need-returns
-returns c = float8-leaves _ _ (says code8Paper refl (c .before .taken .given .1)) (c .before .before .before .float8-code .ensures .answer)
+returns c = float8-leaves _ _ (says code8Paper refl (c .before .float8 .given .1)) (c .before .before .before .float8-code .ensures .answer)
 
 returns-2 : tie.Need-returns-2
 returns-2 c = float8-leaves _ _ (says code8Paper refl (c .enum-told .given .1)) (c .before .before .float8-code .ensures .answer)
 
 pub plv-float8-code-spec : {M : Type 1} → statement M
 plv-float8-code-spec =
-    tie.close (tie.spec float8-code-requires enum-known-taken enum-told returns returns-2)
+    tie.close (tie.spec float8-code-requires enum-known-float8 enum-told returns returns-2)
