@@ -1,0 +1,4 @@
+pub mod Saying
+pub mod Parts
+pub mod Whole
+pub mod Leaving
