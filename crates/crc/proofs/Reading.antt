@@ -24,6 +24,15 @@ run-next r l i h = rw (add-one, drop-cons l i 0)
 pub run-done : (r : ℕ) (l : List ℕ) (i : ℕ) → length l ≤ i → r ≡ run r (drop i l)
 run-done r l i h = rw (drop-of-length-le l h)
 
+-- a last byte is left
+pub run-last : (r s : ℕ) (l : List ℕ) (i : ℕ) → i < length l → length l ≤ i + 1 → s ≡ step r (getD l i 0) → s ≡ run r (drop i l)
+run-last r s l i h k e = e ∙ run-done (step r (getD l i 0)) l (i + 1) k ∙ sym (run-next r l i h)
+
+-- the register two bytes further
+pub two-on : (l : List ℕ) (i w k s r : ℕ) → Pair l i w → k < 2 ^ 16 → s ≡ sixteen (bitXor k w) → run k (drop i l) ≡ r
+    → run s (drop (i + 2) l) ≡ r
+two-on l i w k s r h small e inv = ap (λ (x : ℕ). run x (drop (i + 2) l)) e ∙ sym (h .goes k small) ∙ inv
+
 -- the number of two bytes takes a register where they take it
 pub pair-goes : (l : List ℕ) (i x y : ℕ) → i + 2 ≤ length l → x ≡ getD l i 0 → y ≡ getD l (i + 1) 0 → x < 256 → y < 256
     → Pair l i (x * 256 + y)

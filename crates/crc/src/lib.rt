@@ -1,6 +1,7 @@
 // The checksum of packets and messages (document 01, "Packets and messages"; 000, 2.4.1).
 ghost use mathlib.Core.Path.{_≡_};
 ghost use Prim.Native.Nat.{_+_, _*_, _/_, _%_, _^_, _<_, _≤_};
+ghost use lib.Bits.{bitXor};
 ghost use lib.ListN.{length, drop};
 ghost use Rattle.crc.specs.Meaning.{step, run};
 ghost use Rattle.crc.specs.Promise.{ChecksumPromise};
@@ -38,18 +39,38 @@ fn long(bytes: &[u8]) -> u16
     rest(bytes, i, closed(window))
 }
 
-// The register after the bytes from a place on, one at a time.
+// The register after the bytes from a place on, two at a time and then a last one.
 fn rest(bytes: &[u8], at: usize, register: u16) -> u16
     requires { ⌜ at ≤ length (now bytes) ⌝ }
     ensures { λ r. ⌜ r ≡ run register (drop at (now (bytes .entry))) ⌝ }
 {
     let mut kept = register;
     let mut i = at;
-    while i < bytes.len() {
-        kept = stepped(kept, bytes[i]);
-        i += 1;
+    while 2 <= bytes.len() - i {
+        kept = joined(kept, pair(bytes, i));
+        i += 2;
     }
-    kept
+    last(bytes, i, kept)
+}
+
+// The register after two bytes more, by their number.
+fn joined(register: u16, two: u32) -> u16
+    requires { ⌜ two < 2 ^ 16 ⌝ }
+    ensures { λ r. ⌜ r ≡ sixteen (bitXor register two) ⌝ }
+{
+    shifted(register ^ (two as u16))
+}
+
+// The register after a last byte, where there is one.
+fn last(bytes: &[u8], at: usize, register: u16) -> u16
+    requires { ⌜ length (now bytes) ≤ at + 1 ⌝ }
+    ensures { λ r. ⌜ r ≡ run register (drop at (now (bytes .entry))) ⌝ }
+{
+    if at < bytes.len() {
+        stepped(register, bytes[at])
+    } else {
+        register
+    }
 }
 
 // The window of the first sixteen bytes, the register's start added to the first two.

@@ -1,16 +1,17 @@
 -- `crc::rest` meets its contract. The loop's invariant: the bytes that are left take the register to the whole answer.
 -- Assumes nothing.
-use Prim.Native.Nat.{ℕ, _≤_, _-_, _+_}
-use mathlib.Core.Path.{_≡_, sym, ap, _∙_}
+use Prim.Native.Nat.{ℕ, _≤_, _<_, _-_, _^_}
+use mathlib.Core.Path.{_≡_, subst, sym, _∙_}
 use borrow.Author.Needs.{needs}
 use lib.ListN.{length, drop}
 use Rattle.crc.specs.Meaning.{run}
-use Rattle.crc.proofs.Reading.{run-next, run-done}
+use Rattle.crc.proofs.Reading.{two-on}
+use Rattle.crc.proofs.Sixteen.{sixteen-lt}
 use Rattle.crc.proofs.rest.Statement.{statement}
 use Rattle.crc.proofs.rest.Tie as tie
 
 abbrev Inv-loop : tie.InvT-loop
-Inv-loop bytes at register kept₀ i₀ kept i = (i ≤ length bytes) × (run kept (drop i bytes) ≡ run register (drop at bytes))
+Inv-loop bytes at register kept₀ i₀ kept i = (i ≤ length bytes) × (kept < 2 ^ 16) × (run kept (drop i bytes) ≡ run register (drop at bytes))
 
 abbrev μ-loop : tie.MeasureT-loop
 μ-loop bytes at register kept₀ i₀ kept i = length bytes - i
@@ -18,11 +19,14 @@ abbrev μ-loop : tie.MeasureT-loop
 loop-holds : tie.Need-loop-holds Inv-loop μ-loop
 loop-holds c = search needs
 
-shared-slice-read-stepped : tie.Need-shared-slice-read-stepped Inv-loop μ-loop
-shared-slice-read-stepped c = search needs
+sub-loop : tie.Need-sub-loop Inv-loop μ-loop
+sub-loop c = search needs
 
-stepped-requires : tie.Need-stepped-requires Inv-loop μ-loop
-stepped-requires c κs = search needs
+pair-requires : tie.Need-pair-requires Inv-loop μ-loop
+pair-requires c κs = search needs
+
+joined-requires : tie.Need-joined-requires Inv-loop μ-loop
+joined-requires c κs = c .pair .ensures .small
 
 add-i : tie.Need-add-i Inv-loop μ-loop
 add-i c = search needs
@@ -32,16 +36,19 @@ loop-less c = search needs
 
 loop-again : tie.Need-loop-again Inv-loop μ-loop
 loop-again c =
-    let l = c .before .before .before .before .before .args .bytes .now in
-    let i = c .before .before .before .loop .i in (
+    let at = c .before .before .before in
+    let l = at .before .before .args .bytes .now in
+    let two = c .before .pair in (
       search needs,
-      ap (λ (x : ℕ). run x (drop (i + 1) l)) (c .stepped .ensures)
-          ∙ sym (run-next (c .before .before .before .loop .kept) l i (search needs))
-          ∙ c .before .before .before .loop .inv .1,
+      subst (λ (x : ℕ). x < 2 ^ 16) (sym (c .joined .ensures)) (sixteen-lt _),
+      two-on l (at .loop .i) (two .result) (at .loop .kept) _ _ (two .ensures) (at .loop .inv .1) (c .joined .ensures) (at .loop .inv .2),
     )
 
+last-requires : tie.Need-last-requires Inv-loop μ-loop
+last-requires c κs = search needs
+
 returns : tie.Need-returns Inv-loop μ-loop
-returns c = run-done (c .before .loop .kept) (c .before .before .before .args .bytes .now) (c .before .loop .i) (search needs) ∙ c .before .loop .inv .1
+returns c = c .last .ensures ∙ c .before .before .loop .inv .2
 
 pub rest-spec : {M : Type 1} → statement M
 rest-spec =
@@ -50,9 +57,11 @@ rest-spec =
     Inv-loop
     μ-loop
     loop-holds
-    shared-slice-read-stepped
-    stepped-requires
+    sub-loop
+    pair-requires
+    joined-requires
     add-i
     loop-less
     loop-again
+    last-requires
     returns)
