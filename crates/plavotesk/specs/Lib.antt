@@ -1,0 +1,2 @@
+pub mod HistogramMeaning
+pub mod HistogramPromise
