@@ -2,3 +2,4 @@ pub mod Saying
 pub mod Parts
 pub mod Whole
 pub mod Leaving
+mod HistogramCalls

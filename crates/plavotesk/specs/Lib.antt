@@ -1,3 +1,5 @@
 pub mod Meaning
 pub mod Promise
 pub mod OneOutcome
+pub mod HistogramMeaning
+pub mod HistogramPromise

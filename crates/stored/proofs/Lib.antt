@@ -1,0 +1,3 @@
+mod Restoring
+mod Storing
+mod Tested

@@ -1,0 +1,26 @@
+-- `stored::form::ranged` meets its contract. Field by field.
+-- Assumes nothing.
+use Rattle.stored.proofs.Tested.{tests}
+use Rattle.stored.proofs.form.ranged.Statement.{statement}
+use Rattle.stored.proofs.form.ranged.Tie as tie
+
+returns : tie.Need-returns
+returns c = search tests
+
+returns-2 : tie.Need-returns-2
+returns-2 c = search tests
+
+returns-3 : tie.Need-returns-3
+returns-3 c = search tests
+
+returns-4 : tie.Need-returns-4
+returns-4 c = search tests
+
+returns-5 : tie.Need-returns-5
+returns-5 c = search tests
+
+returns-6 : tie.Need-returns-6
+returns-6 c = search tests
+
+pub ranged-spec : {M : Type 1} → statement M
+ranged-spec = tie.close (tie.spec returns returns-2 returns-3 returns-4 returns-5 returns-6)

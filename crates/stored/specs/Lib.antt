@@ -1,0 +1,5 @@
+pub mod Meaning
+pub mod Ranges
+pub mod Answers
+pub mod Promise
+pub mod OneOutcome
