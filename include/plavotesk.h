@@ -1,0 +1,121 @@
+/* Plavotesk for C: the proved calls on packets, messages, packed codes, count formats, cadence and histogram memory.
+ *
+ * Every call takes all inputs and answers a refusal number, 0 where it is accepted. On a refusal it writes nothing, but for
+ * the bytes skipped with PLV_NO_PACKET. A slice is a pointer and a length; the pointer is never null, not even where the
+ * length is 0. Places that a call writes to do not overlap each other or what it reads. */
+#ifndef PLAVOTESK_H
+#define PLAVOTESK_H
+
+#include <stddef.h>
+#include <stdint.h>
+
+#ifdef __cplusplus
+extern "C" {
+#endif
+
+/* The refusal numbers: each is given exactly when its line says. */
+enum plv_refusal {
+    PLV_ACCEPTED = 0,
+    PLV_CAPTURE_TOO_LONG = 1,    /* capture over 65,536 bytes */
+    PLV_TOO_MUCH_DATA = 2,       /* packet data over 8,187 bytes */
+    PLV_BUFFER_TOO_SHORT = 3,    /* buffer too short to write into */
+    PLV_WRONG_MARK = 4,          /* message mark wrong */
+    PLV_CUT_SHORT = 5,           /* message cut short */
+    PLV_WRONG_CHECKSUM = 6,      /* message checksum wrong */
+    PLV_WRONG_MESSAGE = 7,       /* message address, tag or stray bits */
+    PLV_OUTSIDE_THE_RULE = 8,    /* number or drop outside the rule */
+    PLV_BITS_RAN_OUT = 9,        /* bits ran out */
+    PLV_REDUNDANT_ZERO = 10,     /* redundant zero */
+    PLV_RUN_TOO_LONG = 11,       /* run of ones too long */
+    PLV_COUNT_TOO_LARGE = 12,    /* count too large for the format */
+    PLV_WRONG_MEMORY = 13,       /* memory length odd, outside 2 to 524,288, or not the state's 2N; or words that no state has */
+    PLV_WRONG_ADDRESS = 14,      /* address, or a window's last cell, not under N */
+    PLV_COUNTER_FULL = 15,       /* counter full */
+    PLV_WORD_ABOVE_FULL = 16,    /* a visited word above 67,108,863 */
+    PLV_ASK_OUT_OF_TURN = 17,    /* ask number neither last nor next */
+    PLV_OTHER_WINDOW = 18,       /* last number, other window */
+    PLV_WRONG_SECOND = 19,       /* second or level out of range */
+    PLV_NO_PACKET = 20           /* no packet */
+};
+
+/* The words of a histogram's state, which the caller lends to each call and keeps between them. */
+#define PLV_STATE_WORDS 10
+
+/* The checksum of bytes. */
+uint16_t plv_checksum(const uint8_t *bytes, size_t bytes_length);
+
+/* The first place where a packet stands, and the bytes skipped before it; 1, or 20 with the bytes skipped. */
+uint8_t plv_packet_find(const uint8_t *capture, size_t capture_length, uint64_t *place, uint64_t *skipped);
+
+/* The APID and the bytes of data of the packet at a place; 1, 20. */
+uint8_t plv_packet_header(const uint8_t *capture, size_t capture_length, uint64_t place, uint16_t *apid, uint16_t *length);
+
+/* Where the data of the packet at a place lies in the capture; 0 and 0 where there is none. */
+void plv_packet_payload(const uint8_t *capture, size_t capture_length, uint64_t place, uint64_t *start, uint64_t *length);
+
+/* Writes a packet to the front of a buffer, and answers its bytes; 2, 3. */
+uint8_t plv_packet_write(uint8_t *buffer, size_t buffer_length, uint16_t apid, const uint8_t *payload, size_t payload_length,
+                         uint64_t *written);
+
+/* Reads the message at the front of the bytes, and answers the bytes it used; 5, 4, 6. */
+uint8_t plv_message_read(const uint8_t *bytes, size_t bytes_length, uint16_t *address, uint8_t *tag, uint64_t *value,
+                         uint64_t *used);
+
+/* Writes a message to the front of a buffer, and answers its bytes; 7, 3. */
+uint8_t plv_message_write(uint8_t *buffer, size_t buffer_length, uint16_t address, uint8_t tag, uint64_t value,
+                          uint64_t *written);
+
+/* Packs a number at a bit position, and answers the next position; 8, 3. */
+uint8_t plv_code_pack(uint8_t *buffer, size_t buffer_length, uint64_t at, int32_t value, uint8_t drop, uint64_t *next);
+
+/* Reads the code at a bit position, and answers its number and the next position; 8, 9, 10, 11. */
+uint8_t plv_code_unpack(const uint8_t *bytes, size_t bytes_length, uint64_t at, uint8_t drop, int32_t *value, uint64_t *next);
+
+/* Reads the count at a bit position: the band's edges, and whether it is exact; 8, 9, 10, 11. */
+uint8_t plv_reading(const uint8_t *bytes, size_t bytes_length, uint64_t at, uint8_t drop, double *low, double *high,
+                    uint8_t *exact, uint64_t *next);
+
+/* Reads the count at a bit position as a rate over the seconds of a level; as for a reading, then 19. */
+uint8_t plv_rate(const uint8_t *bytes, size_t bytes_length, uint64_t at, uint8_t drop, uint8_t level, double *low,
+                 double *high, double *seconds, uint64_t *next);
+
+/* A count to its 16-bit float and back; 12. */
+uint8_t plv_float16_code(uint64_t count, uint16_t *code);
+uint64_t plv_float16_count(uint16_t code);
+
+/* A count to its 8-bit float and back; 12. */
+uint8_t plv_float8_code(uint64_t count, uint8_t *code);
+uint64_t plv_float8_count(uint8_t code);
+
+/* A count to its 24-bit integer and back; 12. */
+uint8_t plv_int24_code(uint64_t count, uint32_t *code);
+uint8_t plv_int24_count(uint32_t code, uint32_t *count);
+
+/* The seconds that a level lasts; 19. */
+uint8_t plv_level_seconds(uint8_t level, uint16_t *seconds);
+
+/* The level that begins, and the level that ends, in a second of the hour; 19. */
+uint8_t plv_second_beginning(uint16_t second, uint8_t *level);
+uint8_t plv_second_ending(uint16_t second, uint8_t *level);
+
+/* Takes 2N words, sets them to 0, and makes the state of a memory with nothing asked; 13. */
+uint8_t plv_histogram_open(uint32_t *memory, size_t memory_length, uint64_t *state, size_t state_length);
+
+/* Adds 1 to a word of the active page; 13, 14, 16, 15. */
+uint8_t plv_histogram_increment(uint32_t *memory, size_t memory_length, const uint64_t *state, size_t state_length,
+                                uint32_t address);
+
+/* Exchanges the active page and the idle one; 13. */
+uint8_t plv_histogram_flip(const uint32_t *memory, size_t memory_length, uint64_t *state, size_t state_length);
+
+/* Sums a window of the idle page, once for each number: the last number with its window answers the same sum, with again 1,
+ * and changes nothing. clear is 0 to keep the counts; any other number clears them. 13, then 18 or 17, 14, 16. */
+uint8_t plv_histogram_ask(uint32_t *memory, size_t memory_length, uint64_t *state, size_t state_length, uint16_t number,
+                          uint32_t address, uint8_t xsize, uint8_t ysize, uint16_t ystride, uint8_t clear, uint64_t *sum,
+                          uint8_t *again);
+
+#ifdef __cplusplus
+}
+#endif
+
+#endif

@@ -1,0 +1,124 @@
+"""Every call of the Python binding on document 01's cases and on refusals, a line each; the Rust binding prints the same."""
+import plavotesk
+from plavotesk import Message, Refusal, Window
+
+
+def line(name, call, said=str):
+    """A line: the call, and what it answered or why not."""
+    try:
+        print(f'{name}: {said(call())}')
+    except Refusal as refusal:
+        print(f'{name}: {refusal}' + ('' if refusal.carried is None else f', carried {refusal.carried}'))
+
+
+def pair(values):
+    """Two values beside each other."""
+    return f'{values[0]} {values[1]}'
+
+
+def packets():
+    print(f'checksum: {plavotesk.checksum(b"123456789"):04x}')
+    capture = bytearray([0xee] * 30)
+    line('write', lambda: plavotesk.write_packet(memoryview(capture)[7:], 0x0301, b'counts'))
+    print(f'capture: {capture.hex()}')
+    line('find', lambda: plavotesk.find(capture), pair)
+    line('find nothing', lambda: plavotesk.find(capture[:22]), pair)
+    line('find in too much', lambda: plavotesk.find(bytes(65537)), pair)
+    line('header', lambda: plavotesk.header(capture, 7), pair)
+    line('header elsewhere', lambda: plavotesk.header(capture, 8), pair)
+    print(f'payload: {plavotesk.payload(capture, 7).hex()}')
+    print(f'payload elsewhere: {plavotesk.payload(capture, 8).hex()}')
+    line('write too much', lambda: plavotesk.write_packet(capture, 1, bytes(8188)))
+    line('write into too little', lambda: plavotesk.write_packet(memoryview(capture)[:9], 1, b''))
+
+
+def messages():
+    buffer = bytearray([0xee] * 12)
+    line('write message', lambda: plavotesk.write_message(buffer, Message(0x1234, 2, 0xdeadbeef)))
+    print(f'message: {buffer.hex()}')
+
+    def said(read):
+        message, used = read
+        return f'{message.address:x} {message.tag} {message.value:x} {used}'
+
+    line('read message', lambda: plavotesk.read_message(buffer), said)
+    line('read cut message', lambda: plavotesk.read_message(buffer[:9]), said)
+    line('read no message', lambda: plavotesk.read_message(bytes(4)), said)
+    buffer[5] ^= 1
+    line('read damaged message', lambda: plavotesk.read_message(buffer), said)
+    line('write stray bits', lambda: plavotesk.write_message(buffer, Message(0, 0, 1)))
+    line('write message into too little', lambda: plavotesk.write_message(memoryview(buffer)[:5], Message(0, 0, 0)))
+
+
+def reads(answer):
+    """What a reading says."""
+    reading, position = answer
+    return (f'exactly {reading.low:.1f}' if reading.exact else f'{reading.low:.1f} to {reading.high:.1f}') + f' {position}'
+
+
+def rates(answer):
+    """What a rate says."""
+    rate, position = answer
+    return f'{rate.low:.3f} to {rate.high:.3f} over {rate.seconds:.1f} {position}'
+
+
+def codes():
+    cases = [(0, 0), (5, 0), (-16, 0), (32, 0), (100, 0), (3, 3), (4, 3), (33554431, 0), (33554432, 0), (5, 1)]
+    for value, drop in cases:
+        buffer = bytearray([0xff] * 4)
+        line(f'pack {value} drop {drop}', lambda: plavotesk.pack(buffer, 3, value, drop))
+        print(f'bits: {buffer.hex()}')
+        line('unpack', lambda: plavotesk.unpack(buffer, 3, drop), pair)
+        line('reading', lambda: plavotesk.reading(buffer, 3, drop), reads)
+        line('rate', lambda: plavotesk.rate(buffer, 3, drop, 1), rates)
+    line('pack into nothing', lambda: plavotesk.pack(bytearray(), 0, 5, 0))
+    line('unpack nothing', lambda: plavotesk.unpack(b'', 0, 0), pair)
+    line('rate at level 8', lambda: plavotesk.rate(b'\0', 0, 0, 8), rates)
+
+
+def counts():
+    for count in (8191, 8193, 1 << 27):
+        line(f'float16 of {count}', lambda: plavotesk.float16_code(count))
+    print(f'float16 8192: {plavotesk.float16_count(8192)}')
+    for count in (100, 1 << 34):
+        line(f'float8 of {count}', lambda: plavotesk.float8_code(count))
+    print(f'float8 36: {plavotesk.float8_count(36)}')
+    for count in (16777215, 16777216):
+        line(f'int24 of {count}', lambda: plavotesk.int24_code(count))
+        line(f'int24 {count}', lambda: plavotesk.int24_count(count))
+    for level in (0, 7, 8):
+        line(f'level {level}', lambda: plavotesk.level_seconds(level))
+    for second in (0, 59, 3600):
+        line(f'beginning {second}', lambda: plavotesk.second_beginning(second))
+        line(f'ending {second}', lambda: plavotesk.second_ending(second))
+
+
+def histogram():
+    def sums(answer):
+        return f'{answer.sum} {"again" if answer.again else "new"}'
+
+    cells = Window(0, 1, 0, 0, True)
+    line('open 0', lambda: plavotesk.Histogram(0))
+    line('open 262145', lambda: plavotesk.Histogram(262145))
+    board = plavotesk.Histogram(2)
+    line('repeat before asking', board.ask_again, sums)
+    for address in (0, 0, 0, 2):
+        line(f'increment {address}', lambda: board.increment(address), lambda _: 'counted')
+    print(f'memory: {board.memory}')
+    board.flip()
+    print(f'next number: {board.next_number}')
+    line('ask', lambda: board.ask(cells), sums)
+    line('repeat', board.ask_again, sums)
+    line('ask', lambda: board.ask(cells), sums)
+    line('ask 4', lambda: board.ask_numbered(4, cells), sums)
+    line('ask 2 of another window', lambda: board.ask_numbered(2, cells._replace(clear=False)), sums)
+    line('ask too far', lambda: board.ask(cells._replace(address=1)), sums)
+    print(f'next number: {board.next_number}')
+    print(f'memory: {board.memory}')
+
+
+packets()
+messages()
+codes()
+counts()
+histogram()

@@ -1,0 +1,122 @@
+//! Every call of the Rust binding on document 01's cases and on refusals, a line each; the Python binding prints the same.
+
+use plavotesk::*;
+use std::fmt::Debug;
+
+/// A line: the call, and what it answered or why not.
+fn line<T: Debug>(name: &str, answer: Answer<T>, said: impl Fn(T) -> String) {
+    match answer {
+        Ok(values) => println!("{name}: {}", said(values)),
+        Err(refusal) => match refusal.carried {
+            Some(carried) => println!("{name}: {refusal}, carried {carried}"),
+            None => println!("{name}: {refusal}"),
+        },
+    }
+}
+
+fn hex(bytes: &[u8]) -> String {
+    bytes.iter().map(|byte| format!("{byte:02x}")).collect()
+}
+
+fn packets() {
+    println!("checksum: {:04x}", checksum(b"123456789"));
+    let mut capture = [0xee; 30];
+    line("write", write_packet(&mut capture[7..], 0x0301, b"counts"), |n| n.to_string());
+    println!("capture: {}", hex(&capture));
+    let found = |f: Found| format!("{} {}", f.place, f.skipped);
+    line("find", find(&capture), found);
+    line("find nothing", find(&capture[..22]), found);
+    line("find in too much", find(&[0; 65_537]), found);
+    line("header", header(&capture, 7), |h| format!("{} {}", h.apid, h.length));
+    line("header elsewhere", header(&capture, 8), |h| format!("{} {}", h.apid, h.length));
+    println!("payload: {}", hex(payload(&capture, 7)));
+    println!("payload elsewhere: {}", hex(payload(&capture, 8)));
+    line("write too much", write_packet(&mut capture, 1, &[0; 8188]), |n| n.to_string());
+    line("write into too little", write_packet(&mut capture[..9], 1, b""), |n| n.to_string());
+}
+
+fn messages() {
+    let mut buffer = [0xee; 12];
+    line("write message", write_message(&mut buffer, Message { address: 0x1234, tag: 2, value: 0xdead_beef }), |n| n.to_string());
+    println!("message: {}", hex(&buffer));
+    let said = |(m, used): (Message, usize)| format!("{:x} {} {:x} {used}", m.address, m.tag, m.value);
+    line("read message", read_message(&buffer), said);
+    line("read cut message", read_message(&buffer[..9]), said);
+    line("read no message", read_message(&[0; 4]), said);
+    buffer[5] ^= 1;
+    line("read damaged message", read_message(&buffer), said);
+    line("write stray bits", write_message(&mut buffer, Message { address: 0, tag: 0, value: 1 }), |n| n.to_string());
+    line("write message into too little", write_message(&mut buffer[..5], Message { address: 0, tag: 0, value: 0 }), |n| n.to_string());
+}
+
+fn codes() {
+    for (value, drop) in [(0, 0), (5, 0), (-16, 0), (32, 0), (100, 0), (3, 3), (4, 3), (33_554_431, 0), (33_554_432, 0), (5, 1)] {
+        let mut buffer = [0xff; 4];
+        line(&format!("pack {value} drop {drop}"), pack(&mut buffer, 3, value, drop), |next| next.to_string());
+        println!("bits: {}", hex(&buffer));
+        line("unpack", unpack(&buffer, 3, drop), |(value, next)| format!("{value} {next}"));
+        let reads = |(reading, next)| match reading {
+            Reading::Exact(count) => format!("exactly {count:.1} {next}"),
+            Reading::Between(low, high) => format!("{low:.1} to {high:.1} {next}"),
+        };
+        line("reading", reading(&buffer, 3, drop), reads);
+        line("rate", rate(&buffer, 3, drop, 1), |(r, next)| format!("{:.3} to {:.3} over {:.1} {next}", r.low, r.high, r.seconds));
+    }
+    line("pack into nothing", pack(&mut [], 0, 5, 0), |next| next.to_string());
+    line("unpack nothing", unpack(&[], 0, 0), |(value, next)| format!("{value} {next}"));
+    line("rate at level 8", rate(&[0], 0, 0, 8), |(r, next)| format!("{} {next}", r.low));
+}
+
+fn counts() {
+    for count in [8191, 8193, 1 << 27] {
+        line(&format!("float16 of {count}"), float16_code(count), |code| code.to_string());
+    }
+    println!("float16 8192: {}", float16_count(8192));
+    for count in [100, 1 << 34] {
+        line(&format!("float8 of {count}"), float8_code(count), |code| code.to_string());
+    }
+    println!("float8 36: {}", float8_count(36));
+    for count in [16_777_215, 16_777_216] {
+        line(&format!("int24 of {count}"), int24_code(count), |code| code.to_string());
+        line(&format!("int24 {count}"), int24_count(count as u32), |count| count.to_string());
+    }
+    for level in [0, 7, 8] {
+        line(&format!("level {level}"), level_seconds(level), |seconds| seconds.to_string());
+    }
+    for second in [0, 59, 3600] {
+        line(&format!("beginning {second}"), second_beginning(second), |level| level.to_string());
+        line(&format!("ending {second}"), second_ending(second), |level| level.to_string());
+    }
+}
+
+fn histogram() -> Answer<()> {
+    let sums = |sum: Sum| format!("{} {}", sum.sum, if sum.again { "again" } else { "new" });
+    let cells = Window { address: 0, xsize: 1, ysize: 0, ystride: 0, clear: true };
+    line("open 0", Histogram::open(0).map(|_| ()), |_| String::new());
+    line("open 262145", Histogram::open(262_145).map(|_| ()), |_| String::new());
+    let mut board = Histogram::open(2)?;
+    line("repeat before asking", board.ask_again(), sums);
+    for address in [0, 0, 0, 2] {
+        line(&format!("increment {address}"), board.increment(address), |_| "counted".into());
+    }
+    println!("memory: {:?}", board.memory());
+    board.flip()?;
+    println!("next number: {}", board.next_number());
+    line("ask", board.ask(cells), sums);
+    line("repeat", board.ask_again(), sums);
+    line("ask", board.ask(cells), sums);
+    line("ask 4", board.ask_numbered(4, cells), sums);
+    line("ask 2 of another window", board.ask_numbered(2, Window { clear: false, ..cells }), sums);
+    line("ask too far", board.ask(Window { address: 1, ..cells }), sums);
+    println!("next number: {}", board.next_number());
+    println!("memory: {:?}", board.memory());
+    Ok(())
+}
+
+fn main() -> Answer<()> {
+    packets();
+    messages();
+    codes();
+    counts();
+    histogram()
+}

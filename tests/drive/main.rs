@@ -1,0 +1,99 @@
+//! The exported calls and the second program, side by side: each case is given to both, and every answer, every byte of lent
+//! memory and its margins, and every lent place is compared.
+//!
+//!   drive SEED FAMILY CASES     prints how many comparisons agreed, which numbers were answered, and the first cases that
+//!                               differ; exit status 1 where any does
+
+#[path = "../reference/cadence.rs"]
+#[allow(dead_code)]
+mod cadence;
+#[path = "../reference/checksum.rs"]
+#[allow(dead_code)]
+mod checksum;
+#[path = "../reference/code.rs"]
+#[allow(dead_code)]
+mod code;
+#[path = "../reference/format.rs"]
+#[allow(dead_code)]
+mod format;
+#[path = "../reference/histogram.rs"]
+#[allow(dead_code)]
+mod histogram;
+#[path = "../reference/message.rs"]
+#[allow(dead_code)]
+mod message;
+#[path = "../reference/packet.rs"]
+#[allow(dead_code)]
+mod packet;
+#[path = "../reference/random.rs"]
+mod random;
+#[path = "../../bindings/rust/src/raw.rs"]
+mod raw;
+
+mod codes;
+mod counts;
+mod lent;
+mod messages;
+mod packets;
+mod scripts;
+mod stored;
+
+use random::Random;
+use std::collections::BTreeSet;
+use std::fmt::Debug;
+
+/// On how many cases the two agreed, on how many they did not, and which numbers the exported calls answered.
+#[derive(Default)]
+pub struct Tally {
+    agreed: u64,
+    differed: u64,
+    numbers: BTreeSet<u8>,
+}
+
+impl Tally {
+    /// A number that an exported call answered.
+    pub fn answered(&mut self, number: u8) {
+        self.numbers.insert(number);
+    }
+
+    /// One comparison: what the exported call left, and what the second program says it must leave.
+    pub fn compare<T: PartialEq + Debug>(&mut self, case: impl Fn() -> String, proved: T, plain: T) {
+        if proved == plain {
+            self.agreed += 1;
+            return;
+        }
+        self.differed += 1;
+        if self.differed <= 3 {
+            println!("DIFFERENT {}\n  exported call:  {proved:?}\n  second program: {plain:?}", case());
+        }
+    }
+}
+
+/// Fewer than so many bytes.
+pub fn some(random: &mut Random, end: u64) -> Vec<u8> {
+    let count = random.below(end) as usize;
+    random.bytes(count)
+}
+
+fn main() {
+    let given: Vec<String> = std::env::args().skip(1).collect();
+    let [seed, family, cases] = &given[..] else {
+        eprintln!("usage: drive SEED packets|messages|codes|patterns|counts|scripts CASES");
+        std::process::exit(2);
+    };
+    let mut random = Random::new(seed.parse().expect("the seed is a number"));
+    let cases = cases.parse().expect("the number of cases is a number");
+    let mut tally = Tally::default();
+    match family.as_str() {
+        "packets" => packets::drive(&mut random, cases, &mut tally),
+        "messages" => messages::drive(&mut random, cases, &mut tally),
+        "codes" => codes::drive(&mut random, cases, &mut tally),
+        "patterns" => codes::drive_patterns(&mut random, cases, &mut tally),
+        "counts" => counts::drive(&mut random, cases, &mut tally),
+        "scripts" => scripts::drive(&mut random, cases, &mut tally),
+        _ => panic!("no family is called {family}"),
+    }
+    let Tally { agreed, differed, numbers } = &tally;
+    println!("{family}, seed {seed}: {agreed} comparisons agreed, {differed} differed; numbers answered: {numbers:?}");
+    std::process::exit(if tally.differed == 0 { 0 } else { 1 });
+}

@@ -1,0 +1,83 @@
+//! Messages: of each tag, damaged, cut, forged, with stray bits, and into buffers that are too short.
+
+use crate::lent::Lent;
+use crate::random::Random;
+use crate::{checksum, message, raw, some, Tally};
+
+/// Some number, small ones as often as large ones.
+fn number(random: &mut Random) -> u64 {
+    random.next() >> random.below(64)
+}
+
+/// Bytes that may begin with a message.
+fn bytes(random: &mut Random) -> Vec<u8> {
+    let mut all = match random.below(6) {
+        0 => some(random, 20),
+        1 => {
+            // any word under a right checksum
+            let mut forged = vec![0x3c, 0x3d];
+            let size = 2 + 2 * random.below(6) as usize;
+            forged.extend(random.bytes(size));
+            let sum = checksum::of(&forged);
+            forged.extend(sum.to_be_bytes());
+            forged
+        }
+        _ => loop {
+            if let Ok(message) = message::bytes(random.next() as u16 & 0x3fff, random.below(4) as u8, number(random)) {
+                break message;
+            }
+        },
+    };
+    let length = all.len() as u64;
+    match random.below(5) {
+        0 if length > 0 => all[random.below(length) as usize] ^= 1 << random.below(8),
+        1 => all.truncate(random.below(length + 1) as usize),
+        2 => all.extend(some(random, 9)),
+        _ => {}
+    }
+    all
+}
+
+fn read(tally: &mut Tally, random: &mut Random) {
+    let (bytes, held) = (bytes(random), random.next());
+    let (mut address, mut tag, mut value, mut used) = (held as u16, held as u8, held, !held);
+    let number = unsafe {
+        raw::plv_message_read(bytes.as_ptr(), bytes.len(), &mut address, &mut tag, &mut value, &mut used)
+    };
+    tally.answered(number);
+    let plain = match message::read(&bytes) {
+        Ok((address, tag, value, used)) => (0, address, tag, value, used as u64),
+        Err(number) => (number, held as u16, held as u8, held, !held),
+    };
+    tally.compare(|| format!("read {bytes:02x?}"), (number, address, tag, value, used), plain);
+}
+
+fn write(tally: &mut Tally, random: &mut Random) {
+    let address = random.next() as u16 >> (2 - random.below(20) / 19 * 2);
+    let tag = random.below(4) as u8 + random.below(40) as u8 / 39 * 77;
+    let (value, held) = (number(random), random.next());
+    let mut proved = Lent::new(&some(random, 20), random.next() as u8);
+    let mut plain = proved.clone();
+    let mut written = held;
+    let buffer = proved.part();
+    let number = unsafe {
+        raw::plv_message_write(buffer.as_mut_ptr(), buffer.len(), address, tag, value, &mut written)
+    };
+    tally.answered(number);
+    let answer = match message::write(plain.part(), address, tag, value) {
+        Ok(written) => (0, written as u64),
+        Err(number) => (number, held),
+    };
+    tally.compare(
+        || format!("write address {address}, tag {tag}, value {value}"),
+        (number, written, proved),
+        (answer.0, answer.1, plain),
+    );
+}
+
+pub fn drive(random: &mut Random, cases: u64, tally: &mut Tally) {
+    for _ in 0..cases {
+        read(tally, random);
+        write(tally, random);
+    }
+}
