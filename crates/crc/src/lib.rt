@@ -189,13 +189,13 @@ fn upper(register: u16) -> u16
     register / 256
 }
 
-// The register after sixteen bits: each turn adds what the polynomial makes of it, and carries on with what fell out.
+// The register after sixteen bits: what the polynomial makes of it and of all that falls out, turn by turn.
 fn shifted(register: u16) -> u16
     ensures { λ r. ⌜ r ≡ sixteen register ⌝ }
 {
     let first = carry(register);
-    let second = carry(first);
-    let third = carry(second);
+    let second = register / 256;
+    let third = register / 4096;
     spread(register ^ first ^ second ^ third)
 }
 
