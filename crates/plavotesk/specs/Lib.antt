@@ -1,2 +1,4 @@
 pub mod HistogramMeaning
 pub mod HistogramPromise
+pub mod HistogramOneOutcome
+pub mod HistogramStays
