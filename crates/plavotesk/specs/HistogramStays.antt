@@ -1,14 +1,14 @@
 -- "lent memory and state stay": an exported histogram call that answers another number than 0 leaves everything that it was lent.
 -- Assumes nothing.
 use mathlib.Core.Bool.{Bool, true, false, not}
-use mathlib.Core.Path.{_≡_, refl, ap, sym, _∙_}
+use mathlib.Core.Path.{_≡_, refl, ap, _∙_}
 use mathlib.Core.List.{List}
 use Prim.Native.Nat.{ℕ, _/_}
 use lib.Dec.{leb, ltb, eqb}
 use lib.ListN.{length, replicate}
 use Rattle.ground.specs.Choice.{pick, pick-elim}
 use Rattle.ground.specs.Paper.{Paper, accepted, refused, refusedWith, numberOf}
-use Rattle.histogram.specs.Meaning.{Outcome, Value, done, new, again, askMeans, cellsOf, fittingOf, flipMeans, fresh, full, incrementMeans, lastOf, newMeans, sizedOf, soundOf, turnMeans, turnOf, wordOf}
+use Rattle.histogram.specs.Meaning.{Outcome, Value, askMeans, cellsOf, fittingOf, flipMeans, fresh, full, incrementMeans, lastOf, newMeans, sizedOf, soundOf, turnMeans, turnOf, wordOf}
 use Rattle.histogram.specs.declared.State.{State}
 use Rattle.histogram.specs.declared.Window.{Window}
 use Rattle.histogram.specs.declared.turn.Turn.{Turn}

@@ -2,3 +2,4 @@ pub mod HistogramMeaning
 pub mod HistogramPromise
 pub mod HistogramOneOutcome
 pub mod HistogramStays
+pub mod HistogramSession
