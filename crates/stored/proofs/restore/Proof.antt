@@ -17,13 +17,17 @@ sound-requires : tie.Need-sound-requires
 sound-requires c κs = search needs
 
 returns-2 : tie.Need-returns-2
-returns-2 c = no-state _ _ (c .before .before .before .if1 .left) (c .before .before .form-in .ensures) (answered-no (c .before .sound .ensures) (c .if2 .taken))
+returns-2 c =
+    no-state _ _ (c .before .before .before .if1 .left) (c .before .before .form-in .ensures)
+    (answered-no (c .before .sound .ensures) (c .if2 .taken))
 
 state-in-requires : tie.Need-state-in-requires
 state-in-requires c κs = sound-means _ (answered-yes (c .before .sound .ensures) (c .if2 .left)) .ranged
 
 returns-3 : tie.Need-returns-3
-returns-3 c = the-state _ _ _ (c .before .before .before .before .if1 .left) (c .before .before .before .form-in .ensures) (answered-yes (c .before .before .sound .ensures) (c .before .if2 .left)) (c .state-in .ensures)
+returns-3 c =
+    the-state _ _ _ (c .before .before .before .before .if1 .left) (c .before .before .before .form-in .ensures)
+    (answered-yes (c .before .before .sound .ensures) (c .before .if2 .left)) (c .state-in .ensures)
 
 pub restore-spec : {M : Type 1} → statement M
 restore-spec =
