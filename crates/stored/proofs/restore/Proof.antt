@@ -1,5 +1,6 @@
 -- `stored::restore` meets its contract. Too few words, words of no state, or the state.
 -- Assumes nothing.
+use native.Mathlib.Omega.{arith}
 use borrow.Author.Needs.{needs}
 use Rattle.ground.specs.Questions.{answered-no, answered-yes}
 use Rattle.stored.specs.Ranges.{sound-means}
@@ -8,7 +9,7 @@ use Rattle.stored.proofs.restore.Statement.{statement}
 use Rattle.stored.proofs.restore.Tie as tie
 
 returns : tie.Need-returns
-returns c = too-few _ (c .if1 .taken)
+returns c = too-few (c .before .before .args .words .now) (omega (arith, c .if1 .taken))
 
 form-in-requires : tie.Need-form-in-requires
 form-in-requires c κs = search needs

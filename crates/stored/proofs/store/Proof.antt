@@ -22,7 +22,7 @@ returns c =
     (c .before .before .before .form-of .ensures) (c .before .before .put-form .ensures)
 
 returns-2 : tie.Need-returns-2
-returns-2 c = stays _ _ (c .if1 .left)
+returns-2 c = stays (c .before .before .args .words .now) _ (omega (arith, c .if1 .left))
 
 pub store-spec : {M : Type 1} → statement M
 store-spec = tie.close (tie.spec form-of-requires put-form-requires same-length returns returns-2)
