@@ -6,7 +6,6 @@ use mathlib.Core.List.{List}
 use Prim.Native.Nat.{ℕ, _<_, _≤_}
 use borrow.Author.Tests.{le-leb, lt-leb}
 use lib.ListN.{length}
-use Rattle.ground.specs.Paper.{accepted}
 use Rattle.histogram.specs.declared.State.{State}
 use Rattle.stored.specs.Meaning.{formIn, soundOf, stateIn, stateOf}
 use Rattle.stored.specs.Promise.{RestorePromise}

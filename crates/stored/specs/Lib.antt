@@ -3,3 +3,4 @@ pub mod Ranges
 pub mod Answers
 pub mod Promise
 pub mod OneOutcome
+pub mod Forms

@@ -6,7 +6,7 @@ ghost use mathlib.Core.Path.{_≡_};
 ghost use Prim.Native.Nat.{_≤_};
 ghost use mathlib.Core.List.{_++_};
 ghost use lib.ListN.{drop, length};
-ghost use Rattle.stored.specs.Meaning.{blankOf, flagOf, formIn, formOf, formWith, keptIn, rangedOf, soundOf, stateIn, windowIn, listOf};
+ghost use Rattle.stored.specs.Meaning.{blankOf, flagOf, formIn, formOf, formWith, keptIn, listOf, rangedOf, soundOf, stateIn, windowIn};
 ghost use Rattle.stored.specs.Ranges.{Ranged};
 
 // A state's words: 2N; whether the second page is active; whether an ask is kept; its number, window and sum.

@@ -24,7 +24,9 @@ same-length-2 : tie.Need-same-length-2
 same-length-2 c = search needs
 
 returns : tie.Need-returns
-returns c = asked _ _ _ _ _ _ _ _ _ _ _ _ _ (c .before .before .before .before .before .before .before .before .before .before .before .ask .ensures) (c .before .before .before .before .before .before .store .ensures) (c .before .hand-over .ensures .0) (c .before .hand-over .ensures .1) (c .ask-number .ensures)
+returns c =
+    asked _ _ _ _ _ _ _ _ _ _ _ _ _ (c .before .before .before .before .before .before .before .before .before .before .before .ask .ensures)
+    (c .before .before .before .before .before .before .store .ensures) (c .before .hand-over .ensures .0) (c .before .hand-over .ensures .1) (c .ask-number .ensures)
 
 pub ask-spec : {M : Type 1} → statement M
 ask-spec =

@@ -18,7 +18,9 @@ same-length : tie.Need-same-length
 same-length c = search needs
 
 returns : tie.Need-returns
-returns c = flipped _ _ _ _ _ _ (c .before .before .before .before .before .before .flip .ensures) (c .before .before .before .store .ensures) (c .flip-number .ensures)
+returns c =
+    flipped _ _ _ _ _ _ (c .before .before .before .before .before .before .flip .ensures)
+    (c .before .before .before .store .ensures) (c .flip-number .ensures)
 
 pub flip-spec : {M : Type 1} → statement M
 flip-spec =

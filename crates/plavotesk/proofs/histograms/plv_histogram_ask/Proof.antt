@@ -27,7 +27,12 @@ same-length-2 : tie.Need-same-length-2
 same-length-2 c = search needs
 
 returns : tie.Need-returns
-returns c = ask-held _ _ _ _ _ _ _ _ _ _ _ _ _ _ (c .before .before .before .before .before .before .before .before .before .before .before .before .before .restore .ensures) (c .before .before .before .before .before .before .before .before .before .before .restored .given .1) (c .before .before .before .before .before .before .before .before .before .before .before .before .window .ensures) (c .before .before .before .before .ask .ensures)
+returns c =
+    ask-held _ _ _ _ _ _ _ _ _ _ _ _ _ _
+    (c .before .before .before .before .before .before .before .before .before .before .before .before .before .restore .ensures)
+    (c .before .before .before .before .before .before .before .before .before .before .restored .given .1)
+    (c .before .before .before .before .before .before .before .before .before .before .before .before .window .ensures)
+    (c .before .before .before .before .ask .ensures)
 
 same-length-3 : tie.Need-same-length-3
 same-length-3 c = search needs

@@ -21,7 +21,9 @@ same-length : tie.Need-same-length
 same-length c = search needs
 
 returns : tie.Need-returns
-returns c = flip-held _ _ _ _ _ _ (c .before .before .before .before .before .before .before .restore .ensures) (c .before .before .before .before .before .restored .given .1) (c .before .before .flip .ensures)
+returns c =
+    flip-held _ _ _ _ _ _ (c .before .before .before .before .before .before .before .restore .ensures)
+    (c .before .before .before .before .before .restored .given .1) (c .before .before .flip .ensures)
 
 same-length-2 : tie.Need-same-length-2
 same-length-2 c = search needs

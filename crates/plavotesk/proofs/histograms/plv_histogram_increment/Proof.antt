@@ -21,7 +21,9 @@ same-length : tie.Need-same-length
 same-length c = search needs
 
 returns : tie.Need-returns
-returns c = increment-held _ _ _ _ _ _ _ (c .before .before .before .before .before .before .before .restore .ensures) (c .before .before .before .before .before .restored .given .1) (c .before .before .increment .ensures)
+returns c =
+    increment-held _ _ _ _ _ _ _ (c .before .before .before .before .before .before .before .restore .ensures)
+    (c .before .before .before .before .before .restored .given .1) (c .before .before .increment .ensures)
 
 returns-2 : tie.Need-returns-2
 returns-2 c = increment-none _ _ _ _ (c .before .before .restore .ensures) (c .enum-told .given .1)

@@ -1,12 +1,13 @@
 -- `plavotesk::histograms::plv_histogram_open` meets its contract. Too few words, or what the library's opening leaves.
 -- Assumes nothing.
+use native.Mathlib.Omega.{arith}
 use borrow.Author.Needs.{needs}
 use Rattle.plavotesk.proofs.HistogramCalls.{opened, open-short}
 use Rattle.plavotesk.proofs.histograms.plv_histogram_open.Statement.{statement}
 use Rattle.plavotesk.proofs.histograms.plv_histogram_open.Tie as tie
 
 returns : tie.Need-returns
-returns c = open-short _ _ (c .if1 .taken)
+returns c = open-short _ (c .before .before .before .args .state .now) (omega (arith, c .if1 .taken))
 
 open-requires : tie.Need-open-requires
 open-requires c κs = search needs
@@ -24,7 +25,10 @@ same-length-2 : tie.Need-same-length-2
 same-length-2 c = search needs
 
 returns-2 : tie.Need-returns-2
-returns-2 c = opened _ _ _ _ _ _ (c .before .before .before .before .before .before .before .before .before .if1 .left) (c .before .before .before .before .before .before .before .open .ensures) (c .before .before .before .store-opened .ensures) (c .open-number .ensures)
+returns-2 c =
+    opened _ _ _ _ _ _ (c .before .before .before .before .before .before .before .before .before .if1 .left)
+    (c .before .before .before .before .before .before .before .open .ensures) (c .before .before .before .store-opened .ensures)
+    (c .open-number .ensures)
 
 pub plv-histogram-open-spec : {M : Type 1} → statement M
 plv-histogram-open-spec =
