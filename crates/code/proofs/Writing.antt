@@ -239,6 +239,11 @@ toBits-split (suc a) b x =
 toBits-rest : (w x : ℕ) → toBits w (x % 2 ^ w) ≡ toBits w x
 toBits-rest w x = sym (toBits-low w (x / 2 ^ w) (x % 2 ^ w)) ∙ ap (toBits w) (split x w)
 
+-- the bits of a number's last byte
+byte-rest : (number : ℕ) → byteBits (number % 256) ≡ toBits 8 number
+unfolding byteBits
+byte-rest number = toBits-rest 8 number
+
 module _ (byte room number unit top : ℕ) (small-byte : byte < 256) (in-byte : room ≤ 8) (unit-is : unit ≡ 2 ^ room) (top-is : top ≡ byte - byte % unit) where
   -- what stays, as its bits count
   stays : top ≡ byte / 2 ^ room * 2 ^ room
@@ -326,6 +331,16 @@ part-stored bytes i byte room r number h p q e =
     ∙ ap₂ (λ (n k : ℕ). take n (byteBits k) ++ toBits room number) before p
     ∙ ap (λ (n : ℕ). take (i % 8) (byteBits (getD bytes (i / 8) 0)) ++ toBits n number) q)
 
+-- a whole byte stored
+pub byte-stored : (bytes : List ℕ) (i number : ℕ) → i < length bytes → bitsOf (set bytes i (number % 256)) ≡ put (bitsOf bytes) (8 * i) (toBits 8 number)
+byte-stored bytes i number h =
+    let place : 8 * i / 8 ≡ i = omega arith in
+    let front : 8 * i % 8 ≡ 0 = omega arith in
+    sym (ap (λ (n : ℕ). bitsOf (set bytes n (number % 256))) place)
+    ∙ set-bitsOf bytes (8 * i) (number % 256) number (omega arith)
+    (byte-rest number ∙ sym (ap (λ (n : ℕ). take n (byteBits (getD bytes (8 * i / 8) 0)) ++ toBits (8 - n) number) front))
+    ∙ ap (λ (n : ℕ). put (bitsOf bytes) (8 * i) (toBits (8 - n) number)) front
+
 -- bytes of one length count as many bits
 pub counted-same : (a b : List ℕ) → length a ≡ length b → length (counted a) ≡ length (counted b)
 counted-same a b e = omega (arith, length-counted a, length-counted b)
@@ -354,11 +369,11 @@ put-after l at here a b h e =
 
 -- one turn of putting bits
 pub put-turn : (old now last : List ℕ) (at count number here left room rest : ℕ) → at + count ≤ length (counted old) → left ≤ count
-    → here ≡ at + (count - left) → room ≡ 8 - here % 8 → left ≡ rest + room
+    → here ≡ at + (count - left) → left ≡ rest + room
     → bitsOf now ≡ put (bitsOf old) at (toBits (count - left) (number / 2 ^ left))
-    → bitsOf last ≡ put (bitsOf now) here (toBits (8 - here % 8) (number / 2 ^ rest))
+    → bitsOf last ≡ put (bitsOf now) here (toBits room (number / 2 ^ rest))
     → bitsOf last ≡ put (bitsOf old) at (toBits (count - rest) (number / 2 ^ rest))
-put-turn old now last at count number here left room rest fits few place space parts inv e =
+put-turn old now last at count number here left room rest fits few place parts inv e =
     let l : List ℕ = bitsOf old in
     let first : List ℕ = toBits (count - left) (number / 2 ^ left) in
     let next : List ℕ = toBits room (number / 2 ^ rest) in
@@ -369,9 +384,28 @@ put-turn old now last at count number here left room rest fits few place space p
     ∙ toBits-split (count - left) room (number / 2 ^ rest)
     ∙ ap (λ (n : ℕ). toBits (count - left) n ++ next) same) in
     e
-    ∙ ap₂ (λ (k : List ℕ) (n : ℕ). put k here (toBits n (number / 2 ^ rest))) inv (sym space)
+    ∙ ap (λ (k : List ℕ). put k here next) inv
     ∙ put-after l at here first next (omega (arith, length-counted old, length-bitsOf old)) (omega (arith, place, length-toBits (count - left) (number / 2 ^ left)))
     ∙ ap (put l at) joined
+
+-- bits put in two parts
+pub put-both : (old now last : List ℕ) (at here number count room rest : ℕ) → at + count ≤ length (counted old) → here ≡ at + room → count ≡ rest + room
+    → bitsOf now ≡ put (bitsOf old) at (toBits room (number / 2 ^ rest)) → bitsOf last ≡ put (bitsOf now) here (toBits rest number)
+    → bitsOf last ≡ put (bitsOf old) at (toBits count number)
+put-both old now last at here number count room rest fits place parts e f =
+    let first : List ℕ = toBits room (number / 2 ^ rest) in
+    let many : room + rest ≡ count = omega arith in
+    f
+    ∙ ap (λ (k : List ℕ). put k here (toBits rest number)) e
+    ∙ put-after (bitsOf old) at here first (toBits rest number) (omega (arith, length-counted old, length-bitsOf old))
+    (place ∙ ap (λ (n : ℕ). at + n) (sym (length-toBits room (number / 2 ^ rest))))
+    ∙ ap (put (bitsOf old) at) (sym (toBits-split room rest number) ∙ ap (λ (n : ℕ). toBits n number) many)
+
+-- no bits to put
+pub put-nothing : (old : List ℕ) (at count number : ℕ) → count ≤ 0 → bitsOf old ≡ put (bitsOf old) at (toBits count number)
+put-nothing old at count number h =
+    let z : count ≡ 0 = omega arith in
+    put-none old at 0 number ∙ ap (λ (n : ℕ). put (bitsOf old) at (toBits n number)) (sym z)
 
 -- all bits have been put
 pub put-done : (old now : List ℕ) (at count number left : ℕ) → left ≡ 0

@@ -139,19 +139,45 @@ fn to_byte_end(at: u64) -> u32
     ((8 - at % 8) % 8) as u32
 }
 
-// Bits that end where a byte ends, put byte by byte: each byte takes as many as it has room for.
+// Bits that end where a byte ends: as many as the first byte has room for, then whole bytes.
 fn put(buffer: &mut [u8], at: u64, number: u64, count: u32)
     requires { ⌜ (at + count ≤ length (counted (now buffer))) × (count ≤ 40) × ((at + count) % 8 ≡ 0) ⌝ }
     ensures { λ _. ⌜ bitsOf (now (buffer .exit)) ≡ putOver (bitsOf (now (buffer .entry))) at (toBits count number) ⌝ }
 {
-    let mut left = count;
-    let mut here = at;
-    while 0 < left {
-        let room = room_at(here);
-        left -= room;
-        put_part(buffer, here, number >> left);
-        here += room as u64;
+    if 0 < count {
+        let left = count - room_at(at);
+        put_part(buffer, at, number >> left);
+        put_bytes(buffer, (at / 8) as usize + 1, number, left);
     }
+}
+
+// Bits put as whole bytes, from a byte on.
+fn put_bytes(buffer: &mut [u8], first: usize, number: u64, count: u32)
+    requires { ⌜ (8 * first + count ≤ length (counted (now buffer))) × (count ≤ 40) × (count % 8 ≡ 0) ⌝ }
+    ensures { λ _. ⌜ bitsOf (now (buffer .exit)) ≡ putOver (bitsOf (now (buffer .entry))) (8 * first) (toBits count number) ⌝ }
+{
+    let mut left = count;
+    let mut i = first;
+    while 0 < left {
+        left -= eight_of(left);
+        put_byte(buffer, i, number >> left);
+        i += 1;
+    }
+}
+
+// How many bits the next whole byte takes of those that are left: eight, where so many are left.
+fn eight_of(left: u32) -> u32
+    ensures { λ r. ⌜ (r ≤ 8) × (r ≤ left) × (8 ≤ left → r ≡ 8) ⌝ }
+{
+    if left < 8 { left } else { 8 }
+}
+
+// The last eight bits of a number put as a byte.
+fn put_byte(buffer: &mut [u8], i: usize, number: u64)
+    requires { ⌜ i < length (now buffer) ⌝ }
+    ensures { λ _. ⌜ bitsOf (now (buffer .exit)) ≡ putOver (bitsOf (now (buffer .entry))) (8 * i) (toBits 8 number) ⌝ }
+{
+    buffer[i] = (number % 256) as u8;
 }
 
 // How many bits of its byte there are from a position on.
