@@ -244,34 +244,39 @@ byte-rest : (number : ℕ) → byteBits (number % 256) ≡ toBits 8 number
 unfolding byteBits
 byte-rest number = toBits-rest 8 number
 
-module _ (byte room number unit top : ℕ) (small-byte : byte < 256) (in-byte : room ≤ 8) (unit-is : unit ≡ 2 ^ room) (top-is : top ≡ byte - byte % unit) where
-  -- what stays, as its bits count
-  stays : top ≡ byte / 2 ^ room * 2 ^ room
-  stays = top-is ∙ ap (λ (n : ℕ). byte - byte % n) unit-is ∙ omega (arith, split byte room)
-
+module _ (byte room number unit top : ℕ) (small-byte : byte < 256) (in-byte : room ≤ 8) (fits : number < 2 ^ room) (unit-is : unit ≡ 2 ^ room) (top-is : top ≡ byte - byte % unit) where
   -- a byte whose last bits are replaced
-  whole : top + number % unit ≡ byte / 2 ^ room * 2 ^ room + number % 2 ^ room
-  whole = ap₂ (λ (m n : ℕ). m + number % n) stays unit-is
+  whole : top + number ≡ byte / 2 ^ room * 2 ^ room + number
+  whole =
+      let stays : byte - byte % 2 ^ room ≡ byte / 2 ^ room * 2 ^ room = omega (arith, split byte room) in
+      ap (λ (n : ℕ). n + number) (top-is ∙ ap (λ (n : ℕ). byte - byte % n) unit-is ∙ stays)
 
   -- is a byte
-  pub filled-lt : top + number % unit < 256
+  pub filled-lt : top + number < 256
   filled-lt =
       subst (λ (n : ℕ). n < 256) (sym whole)
-      (field-lt (8 - room) room 8 (high-lt (8 - room) room 8 small-byte (omega arith)) (mod-lt number (pow-pos room)) (omega arith))
+      (field-lt (8 - room) room 8 (high-lt (8 - room) room 8 small-byte (omega arith)) fits (omega arith))
 
-  pub filled-bits : byteBits (top + number % unit) ≡ take (8 - room) (byteBits byte) ++ toBits room number
+  pub filled-bits : byteBits (top + number) ≡ take (8 - room) (byteBits byte) ++ toBits room number
   unfolding byteBits
   filled-bits =
       let place : ℕ = 8 - room in
       let eight : 8 ≡ place + room = omega arith in
       let first : List ℕ = toBits place (byte / 2 ^ room) in
       ap₂ (λ (n x : ℕ). toBits n x) eight whole
-      ∙ toBits-join place room (byte / 2 ^ room) (number % 2 ^ room) (mod-lt number (pow-pos room))
-      ∙ ap₂ (λ (k l : List ℕ). k ++ l)
+      ∙ toBits-join place room (byte / 2 ^ room) number fits
+      ∙ ap (λ (k : List ℕ). k ++ toBits room number)
       (sym (ap (λ (n : ℕ). take place (toBits n byte)) eight
       ∙ ap (take place) (toBits-split place room byte)
       ∙ take-at first (toBits room byte) place (length-toBits place (byte / 2 ^ room))))
-      (toBits-rest room number)
+
+-- bits lie in the room that there is
+pub room-holds : (number room space : ℕ) → room ≡ space → number < 2 ^ space → number < 2 ^ room
+room-holds number room space e h = subst (λ (n : ℕ). number < 2 ^ n) (sym e) h
+
+-- the first of bits, as many as there is room for
+pub first-lt : (number count left room : ℕ) → number < 2 ^ count → count ≡ room + left → number / 2 ^ left < 2 ^ room
+first-lt number count left room h e = high-lt room left count h (sym e)
 
 -- bits put beyond the first list are put in the second
 put-append-add : (xs ys : List ℕ) (n : ℕ) (zs : List ℕ) → put (xs ++ ys) (length xs + n) zs ≡ xs ++ put ys n zs

@@ -141,7 +141,7 @@ fn to_byte_end(at: u64) -> u32
 
 // Bits that end where a byte ends: as many as the first byte has room for, then whole bytes.
 fn put(buffer: &mut [u8], at: u64, number: u64, count: u32)
-    requires { ⌜ (at + count ≤ length (counted (now buffer))) × (count ≤ 40) × ((at + count) % 8 ≡ 0) ⌝ }
+    requires { ⌜ (at + count ≤ length (counted (now buffer))) × (count ≤ 40) × ((at + count) % 8 ≡ 0) × (number < 2 ^ count) ⌝ }
     ensures { λ _. ⌜ bitsOf (now (buffer .exit)) ≡ putOver (bitsOf (now (buffer .entry))) at (toBits count number) ⌝ }
 {
     if 0 < count {
@@ -187,9 +187,9 @@ fn room_at(at: u64) -> u32
     (8 - at % 8) as u32
 }
 
-// The last bits of a number put at a position, as many as its byte has room for.
+// Bits put at a position, as many as its byte has room for.
 fn put_part(buffer: &mut [u8], at: u64, number: u64)
-    requires { ⌜ at < length (counted (now buffer)) ⌝ }
+    requires { ⌜ (at < length (counted (now buffer))) × (number < 2 ^ (8 - at % 8)) ⌝ }
     ensures { λ _. ⌜ bitsOf (now (buffer .exit)) ≡ putOver (bitsOf (now (buffer .entry))) at (toBits (8 - at % 8) number) ⌝ }
 {
     let i = (at / 8) as usize;
@@ -206,11 +206,10 @@ fn byte_wide(byte: u8) -> u64
 
 // A byte whose last bits are those of a number.
 fn filled(byte: u64, room: u32, number: u64) -> u64
-    requires { ⌜ (byte < 256) × (room ≤ 8) ⌝ }
+    requires { ⌜ (byte < 256) × (room ≤ 8) × (number < 2 ^ room) ⌝ }
     ensures { λ r. ⌜ (byteBits r ≡ take (8 - room) (byteBits byte) ++ toBits room number) × (r < 256) ⌝ }
 {
-    let unit = unit_of(room);
-    kept(byte, unit) + number % unit
+    kept(byte, unit_of(room)) + number
 }
 
 // What a byte's last bits count together, and one.

@@ -12,16 +12,13 @@ unit-of-requires c κs = search needs
 kept-requires : tie.Need-kept-requires
 kept-requires c κs = search needs
 
-rem-result : tie.Need-rem-result
-rem-result c = search needs
-
 add-result : tie.Need-add-result
 add-result c =
     let a = c .before .before .args in
     let p = c .before .before .pre in
     let u = c .before .unit-of in
     let k = c .kept in
-    omega (arith, filled-lt (a .byte) (a .room) (a .number) (u .result) (k .result) (p .0) (p .1) (u .ensures .0) (k .ensures .0))
+    omega (arith, filled-lt (a .byte) (a .room) (a .number) (u .result) (k .result) (p .0) (p .1) (p .2) (u .ensures .0) (k .ensures .0))
 
 returns : tie.Need-returns
 returns c =
@@ -29,9 +26,9 @@ returns c =
     let p = c .before .before .pre in
     let u = c .before .unit-of in
     let k = c .kept in (
-      filled-bits (a .byte) (a .room) (a .number) (u .result) (k .result) (p .0) (p .1) (u .ensures .0) (k .ensures .0),
-      filled-lt (a .byte) (a .room) (a .number) (u .result) (k .result) (p .0) (p .1) (u .ensures .0) (k .ensures .0),
+      filled-bits (a .byte) (a .room) (a .number) (u .result) (k .result) (p .0) (p .1) (p .2) (u .ensures .0) (k .ensures .0),
+      filled-lt (a .byte) (a .room) (a .number) (u .result) (k .result) (p .0) (p .1) (p .2) (u .ensures .0) (k .ensures .0),
     )
 
 pub filled-spec : {M : Type 1} → statement M
-filled-spec = tie.close (tie.spec unit-of-requires kept-requires rem-result add-result returns)
+filled-spec = tie.close (tie.spec unit-of-requires kept-requires add-result returns)

@@ -49,6 +49,7 @@ put-requires c κs =
       omega (arith, length-counted (a .buffer .now), c .before .before .to-byte-end .ensures .0),
       omega arith,
       omega (arith, c .before .before .to-byte-end .ensures .0),
+      c .join .ensures .1,
     )
 
 same-length-3 : tie.Need-same-length-3

@@ -2,7 +2,7 @@
 -- Assumes nothing.
 use Prim.Native.Nat.{_-_, _%_, _*_, _+_, _/_}
 use Rattle.code.specs.Positions.{length-counted}
-use Rattle.code.proofs.Writing.{put-both, put-nothing, counted-same}
+use Rattle.code.proofs.Writing.{put-both, put-nothing, counted-same, first-lt}
 use native.Mathlib.Omega.{arith}
 use borrow.Author.Needs.{needs}
 use Rattle.code.proofs.write.put.Statement.{statement}
@@ -21,7 +21,13 @@ shr-put-part : tie.Need-shr-put-part
 shr-put-part c = search needs
 
 put-part-requires : tie.Need-put-part-requires
-put-part-requires c κs = search needs
+put-part-requires c κs =
+    let s = c .before .before .before .before in
+    let r = c .before .room-at in
+    let t = c .before .before .if1 .taken in (
+      omega (arith, s .pre .0, t),
+      first-lt (s .args .number) (s .args .count) (s .args .count - r .result) (8 - s .args .at % 8) (s .pre .3) (omega (arith, s .pre .2, r .ensures .0, t)),
+    )
 
 add-put-bytes : tie.Need-add-put-bytes
 add-put-bytes c = search needs
