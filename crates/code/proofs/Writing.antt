@@ -4,8 +4,7 @@ use mathlib.Core.Path.{_≡_, refl, sym, ap, ap₂, _∙_, subst}
 use mathlib.Core.Bool.{Bool, true, false, _&&_}
 use mathlib.Core.List.{List, [], _∷_, _++_, append-assoc}
 use Prim.Native.Nat.{ℕ, zero, suc, _+_, _*_, _-_, _/_, _%_, _^_, _<_, _≤_}
-use native.Mathlib.Nat.{mod-eq-of-lt, mod-lt, suc-add, zero-add, pow-suc}
-use native.Mathlib.Numerals.{add-one}
+use native.Mathlib.Nat.{mod-eq-of-lt, mod-lt, suc-add, zero-add}
 use native.Mathlib.Omega.{arith}
 use lib.IntN.{ℤ, pos, negsuc, natAbs, _-ℤ_, +ℤ-idl}
 use lib.Signed.{ltZ, nonNeg}
@@ -244,12 +243,14 @@ byte-rest : (number : ℕ) → byteBits (number % 256) ≡ toBits 8 number
 unfolding byteBits
 byte-rest number = toBits-rest 8 number
 
-module _ (byte room number unit top : ℕ) (small-byte : byte < 256) (in-byte : room ≤ 8) (fits : number < 2 ^ room) (unit-is : unit ≡ 2 ^ room) (top-is : top ≡ byte - byte % unit) where
+-- the last bits of a byte taken away, as shifts do it
+pub kept-is : (byte room : ℕ) → byte < 256 → byte / 2 ^ room * 2 ^ room % 2 ^ 64 ≡ byte / 2 ^ room * 2 ^ room
+kept-is byte room h = mod-eq-of-lt (omega (arith, split byte room))
+
+module _ (byte room number top : ℕ) (small-byte : byte < 256) (in-byte : room ≤ 8) (fits : number < 2 ^ room) (top-is : top ≡ byte / 2 ^ room * 2 ^ room) where
   -- a byte whose last bits are replaced
   whole : top + number ≡ byte / 2 ^ room * 2 ^ room + number
-  whole =
-      let stays : byte - byte % 2 ^ room ≡ byte / 2 ^ room * 2 ^ room = omega (arith, split byte room) in
-      ap (λ (n : ℕ). n + number) (top-is ∙ ap (λ (n : ℕ). byte - byte % n) unit-is ∙ stays)
+  whole = ap (λ (n : ℕ). n + number) top-is
 
   -- is a byte
   pub filled-lt : top + number < 256

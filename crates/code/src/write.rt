@@ -7,7 +7,7 @@ ghost use lib.ListN.{length, take};
 ghost use mathlib.Core.List.{_++_};
 ghost use Rattle.ground.specs.Bits.{toBits, bitsOf};
 ghost use Rattle.ground.specs.Putting.{put as putOver};
-ghost use Rattle.code.specs.Meaning.{leastCoded, leading as leadingPlace, shapeOf, bits, coded as codedBits, bigOf, counted, toByteEnd, bytesWith, largest, longestRun};
+ghost use Rattle.code.specs.Meaning.{leastCoded, leading as leadingPlace, shapeOf, bits, coded as codedBits, bigOf, counted, toByteEnd, largest, longestRun};
 ghost use Rattle.code.specs.Shapes.{Drop};
 ghost use Rattle.code.specs.Steps.{Holds, PlacePromise, byteBits};
 
@@ -209,21 +209,13 @@ fn filled(byte: u64, room: u32, number: u64) -> u64
     requires { ⌜ (byte < 256) × (room ≤ 8) × (number < 2 ^ room) ⌝ }
     ensures { λ r. ⌜ (byteBits r ≡ take (8 - room) (byteBits byte) ++ toBits room number) × (r < 256) ⌝ }
 {
-    kept(byte, unit_of(room)) + number
-}
-
-// What a byte's last bits count together, and one.
-fn unit_of(room: u32) -> u64
-    requires { ⌜ room ≤ 8 ⌝ }
-    ensures { λ r. ⌜ (r ≡ 2 ^ room) × (0 < r) ⌝ }
-{
-    1 << room
+    kept(byte, room) + number
 }
 
 // A byte without its last bits.
-fn kept(byte: u64, unit: u64) -> u64
-    requires { ⌜ (byte < 256) × (0 < unit) ⌝ }
-    ensures { λ r. ⌜ (r ≡ byte - byte % unit) × (r < 256) ⌝ }
+fn kept(byte: u64, room: u32) -> u64
+    requires { ⌜ (byte < 256) × (room ≤ 8) ⌝ }
+    ensures { λ r. ⌜ r ≡ byte / 2 ^ room * 2 ^ room ⌝ }
 {
-    byte - byte % unit
+    (byte >> room) << room
 }

@@ -1,18 +1,18 @@
--- `code::write::kept` meets its contract: a byte's last bits count no more than the byte.
+-- `code::write::kept` meets its contract: the shifts lose nothing but the last bits.
 -- Assumes nothing.
-use native.Mathlib.Nat.{mod-le}
+use Rattle.code.proofs.Writing.{kept-is}
 use borrow.Author.Needs.{needs}
 use Rattle.code.proofs.write.kept.Statement.{statement}
 use Rattle.code.proofs.write.kept.Tie as tie
 
-rem-result : tie.Need-rem-result
-rem-result c = search needs
+shr-result : tie.Need-shr-result
+shr-result c = search needs
 
-sub-result : tie.Need-sub-result
-sub-result c = mod-le _ _
+shl-result : tie.Need-shl-result
+shl-result c = search needs
 
 returns : tie.Need-returns
-returns c = search needs
+returns c = kept-is (c .args .byte) (c .args .room) (c .pre .0)
 
 pub kept-spec : {M : Type 1} → statement M
-kept-spec = tie.close (tie.spec rem-result sub-result returns)
+kept-spec = tie.close (tie.spec shr-result shl-result returns)

@@ -1,7 +1,6 @@
 -- `code::write::put` meets its contract: the first byte's part and the whole bytes after it are all the bits.
 -- Assumes nothing.
 use Prim.Native.Nat.{_-_, _%_, _*_, _+_, _/_}
-use Rattle.code.specs.Positions.{length-counted}
 use Rattle.code.proofs.Writing.{put-both, put-nothing, counted-same, first-lt}
 use native.Mathlib.Omega.{arith}
 use borrow.Author.Needs.{needs}
