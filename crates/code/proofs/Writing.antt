@@ -4,15 +4,14 @@ use mathlib.Core.Path.{_≡_, refl, sym, ap, ap₂, _∙_, subst}
 use mathlib.Core.Bool.{Bool, true, false, _&&_}
 use mathlib.Core.List.{List, [], _∷_, _++_, append-assoc}
 use Prim.Native.Nat.{ℕ, zero, suc, _+_, _*_, _-_, _/_, _%_, _^_, _<_, _≤_}
-use native.Mathlib.Nat.{mod-eq-of-lt, mod-lt, suc-add, zero-add, pow-suc}
-use native.Mathlib.Numerals.{add-one}
+use native.Mathlib.Nat.{mod-eq-of-lt, mod-lt, suc-add, zero-add}
 use native.Mathlib.Omega.{arith}
 use lib.IntN.{ℤ, pos, negsuc, natAbs, _-ℤ_, +ℤ-idl}
 use lib.Signed.{ltZ, nonNeg}
 use lib.Count.{leadingZeros, leading-top}
-use lib.ListN.{length, take, drop, getD, set, replicate}
-use lib.Seq.{set-at, set-append-left, paste, paste-suc, take-length}
-use lib.Pow.{pow-pos, pow-mono, split, ones-lt}
+use lib.ListN.{length, length-append, take, drop, getD, set, replicate, take-append-drop}
+use lib.Seq.{take-at, drop-at, length-take-le, take-append-le}
+use lib.Pow.{pow-pos, pow-mono, split, ones-lt, shr-shr}
 use lib.Dec.{T, ltb, leb}
 use borrow.Author.Tests.{lt-ltb, le-ltb, le-leb, lt-leb, ltb-true, ltb-false}
 use mir.Syntax.{w32, w64}
@@ -21,10 +20,10 @@ use mir.ValLaws.{toZ-ofZ}
 use Rattle.ground.specs.Choice.{pick}
 use Rattle.ground.specs.Paper.{accepted, refused}
 use Rattle.ground.specs.Bits.{toBits, bitsOf}
-use Rattle.ground.specs.Putting.{put}
+use Rattle.ground.specs.Putting.{put, put-next}
 use Rattle.code.specs.Meaning.{nought, small, mid, bits, coded, shapeOf, bigOf, leading, leastCoded, signOf, counted, largest, longestRun, toByteEnd, padded, bytesFrom, bytesWith, codeOf, codeFits, inRule, dropTaken}
-use Rattle.code.specs.BitLists.{length-toBits, length-bitsOf, toBits-join, toBits-ones, toBits-zeros}
-use Rattle.code.specs.Positions.{length-counted, getD-toBits, allBytes, bytes-back}
+use Rattle.code.specs.BitLists.{length-toBits, length-bitsOf, toBits-low, toBits-join, toBits-ones, toBits-zeros}
+use Rattle.code.specs.Positions.{length-counted, allBytes, bytes-back}
 use Rattle.code.specs.Magnitudes.{leading-is, exponent-lt, high-lt, field-lt, drop-small}
 use Rattle.code.specs.Shapes.{Drop}
 use Rattle.code.proofs.Reading.{shift-is}
@@ -227,107 +226,200 @@ shape-big d s m a b h = rw (le-ltb m (leastCoded d) a, le-ltb m 16 b, le-ltb m 3
 
 -- ---- bits put into bytes
 
--- a byte is the bits before a place, the bit there and those after it
-byte-parts : (h c l place : ℕ) → place < 8 → c < 2 → l < 2 ^ (7 - place)
-    → byteBits ((h * 2 + c) * 2 ^ (7 - place) + l) ≡ toBits place h ++ (c ∷ toBits (7 - place) l)
+-- a number's bits are its first ones and its last ones
+toBits-split : (a b x : ℕ) → toBits (a + b) x ≡ toBits a (x / 2 ^ b) ++ toBits b x
+toBits-split zero b x = ap (λ (k : ℕ). toBits k x) (zero-add b)
+toBits-split (suc a) b x =
+    let turn : a + b ≡ b + a = omega arith in
+    ap (λ (k : ℕ). toBits k x) (suc-add a b)
+    ∙ ap₂ _∷_ (ap (λ (k : ℕ). k % 2) (ap (λ (k : ℕ). x / 2 ^ k) turn ∙ sym (shr-shr x b a))) (toBits-split a b x)
+
+-- the last bits of a number are those of its rest
+toBits-rest : (w x : ℕ) → toBits w (x % 2 ^ w) ≡ toBits w x
+toBits-rest w x = sym (toBits-low w (x / 2 ^ w) (x % 2 ^ w)) ∙ ap (toBits w) (split x w)
+
+-- the bits of a number's last byte
+byte-rest : (number : ℕ) → byteBits (number % 256) ≡ toBits 8 number
 unfolding byteBits
-byte-parts h c l place a b e =
-    let eight : 8 ≡ place + 1 + (7 - place) = omega arith in
-    ap (λ (n : ℕ). toBits n ((h * 2 + c) * 2 ^ (7 - place) + l)) eight
-    ∙ toBits-join (place + 1) (7 - place) (h * 2 + c) l e
-    ∙ ap (λ (k : List ℕ). k ++ toBits (7 - place) l)
-    (toBits-join place 1 h c b
-    ∙ ap (λ (n : ℕ). toBits place h ++ (n ∷ [])) (ap (λ (n : ℕ). n % 2) (native.Mathlib.Nat.div-one c) ∙ mod-eq-of-lt b))
-    ∙ append-assoc (toBits place h) (c ∷ []) (toBits (7 - place) l)
+byte-rest number = toBits-rest 8 number
 
-module _ (byte place bit unit top : ℕ) (small-byte : byte < 256) (in-byte : place < 8) (is-bit : bit < 2) (unit-is : unit ≡ 2 ^ (7 - place)) (top-is : top ≡ byte / unit / 2 * 2 + bit) where
-  -- the bits down to the place, with the bit put
-  top-lt : byte / 2 ^ (7 - place) / 2 * 2 + bit < 2 ^ (place + 1)
-  top-lt =
-      let q : byte / 2 ^ (7 - place) < 2 ^ (place + 1) = high-lt (place + 1) (7 - place) 8 small-byte (omega arith) in
-      let e : 2 ^ (place + 1) ≡ 2 ^ place * 2 = ap (λ (n : ℕ). 2 ^ n) (add-one place) ∙ pow-suc 2 place in
-      omega arith
+-- the last bits of a byte taken away, as shifts do it
+pub kept-is : (byte room : ℕ) → byte < 256 → byte / 2 ^ room * 2 ^ room % 2 ^ 64 ≡ byte / 2 ^ room * 2 ^ room
+kept-is byte room h = mod-eq-of-lt (omega (arith, split byte room))
 
-  -- the bits after the place
-  low-lt : byte % 2 ^ (7 - place) < 2 ^ (7 - place)
-  low-lt = mod-lt byte (pow-pos (7 - place))
+module _ (byte room number top : ℕ) (small-byte : byte < 256) (in-byte : room ≤ 8) (fits : number < 2 ^ room) (top-is : top ≡ byte / 2 ^ room * 2 ^ room) where
+  -- a byte whose last bits are replaced
+  whole : top + number ≡ byte / 2 ^ room * 2 ^ room + number
+  whole = ap (λ (n : ℕ). n + number) top-is
 
-  -- the byte with the bit put is a byte
-  whole-lt : (byte / 2 ^ (7 - place) / 2 * 2 + bit) * 2 ^ (7 - place) + byte % 2 ^ (7 - place) < 256
-  whole-lt = field-lt (place + 1) (7 - place) 8 top-lt low-lt (omega arith)
+  -- is a byte
+  pub filled-lt : top + number < 256
+  filled-lt =
+      subst (λ (n : ℕ). n < 256) (sym whole)
+      (field-lt (8 - room) room 8 (high-lt (8 - room) room 8 small-byte (omega arith)) fits (omega arith))
 
-  pub put-lt : top * unit + byte % unit < 256
-  put-lt = rw (top-is, unit-is) whole-lt
+  pub filled-bits : byteBits (top + number) ≡ take (8 - room) (byteBits byte) ++ toBits room number
+  unfolding byteBits
+  filled-bits =
+      let place : ℕ = 8 - room in
+      let eight : 8 ≡ place + room = omega arith in
+      let first : List ℕ = toBits place (byte / 2 ^ room) in
+      ap₂ (λ (n x : ℕ). toBits n x) eight whole
+      ∙ toBits-join place room (byte / 2 ^ room) number fits
+      ∙ ap (λ (k : List ℕ). k ++ toBits room number)
+      (sym (ap (λ (n : ℕ). take place (toBits n byte)) eight
+      ∙ ap (take place) (toBits-split place room byte)
+      ∙ take-at first (toBits room byte) place (length-toBits place (byte / 2 ^ room))))
 
-  pub put-bits : byteBits (top * unit + byte % unit) ≡ set (byteBits byte) place bit
-  put-bits =
-      rw (top-is, unit-is)
-      (let q : ℕ = byte / 2 ^ (7 - place) in
-      let h : ℕ = q / 2 in
-      let whole : byte ≡ (h * 2 + q % 2) * 2 ^ (7 - place) + byte % 2 ^ (7 - place)
-      = sym (split byte (7 - place)) ∙ ap (λ (n : ℕ). n * 2 ^ (7 - place) + byte % 2 ^ (7 - place)) (omega arith) in
-      byte-parts h bit (byte % 2 ^ (7 - place)) place in-byte is-bit low-lt
-      ∙ sym (ap (λ (k : List ℕ). set k place bit)
-      (ap byteBits whole ∙ byte-parts h (q % 2) (byte % 2 ^ (7 - place)) place in-byte (mod-lt q (pow-pos 1)) low-lt)
-      ∙ set-at (toBits place h) (q % 2) (toBits (7 - place) (byte % 2 ^ (7 - place))) bit place (length-toBits place h)))
+-- bits lie in the room that there is
+pub room-holds : (number room space : ℕ) → room ≡ space → number < 2 ^ space → number < 2 ^ room
+room-holds number room space e h = subst (λ (n : ℕ). number < 2 ^ n) (sym e) h
 
--- a store beyond the first list is a store in the second
-set-append-add : (xs ys : List ℕ) (n a : ℕ) → set (xs ++ ys) (length xs + n) a ≡ xs ++ set ys n a
-set-append-add [] ys n a = ap (λ (k : ℕ). set ys k a) (zero-add n)
-set-append-add (x ∷ xs) ys n a = ap (λ (k : ℕ). set (x ∷ (xs ++ ys)) k a) (suc-add (length xs) n) ∙ ap (λ (k : List ℕ). x ∷ k) (set-append-add xs ys n a)
+-- the first of bits, as many as there is room for
+pub first-lt : (number count left room : ℕ) → number < 2 ^ count → count ≡ room + left → number / 2 ^ left < 2 ^ room
+first-lt number count left room h e = high-lt room left count h (sym e)
 
--- a byte stored with one bit put is the bit put among the bits
-pub set-bitsOf : (bytes : List ℕ) (i r bit : ℕ) → i < 8 * length bytes → byteBits r ≡ set (byteBits (getD bytes (i / 8) 0)) (i % 8) bit
-    → bitsOf (set bytes (i / 8) r) ≡ set (bitsOf bytes) i bit
+-- bits put beyond the first list are put in the second
+put-append-add : (xs ys : List ℕ) (n : ℕ) (zs : List ℕ) → put (xs ++ ys) (length xs + n) zs ≡ xs ++ put ys n zs
+put-append-add [] ys n zs = ap (λ (k : ℕ). put ys k zs) (zero-add n)
+put-append-add (x ∷ xs) ys n zs =
+    let k : ℕ = length xs + n in
+    ap (λ (m : ℕ). put (x ∷ (xs ++ ys)) m zs) (suc-add (length xs) n)
+    ∙ ap (λ (m : ℕ). x ∷ (take k (xs ++ ys) ++ (zs ++ drop m (x ∷ (xs ++ ys))))) (suc-add k (length zs))
+    ∙ ap (λ (l : List ℕ). x ∷ l) (put-append-add xs ys n zs)
+
+-- bits put up to the end of the first list leave the second
+put-append-end : (xs ys : List ℕ) (n : ℕ) (zs : List ℕ) → length xs ≡ n + length zs → put (xs ++ ys) n zs ≡ (take n xs ++ zs) ++ ys
+put-append-end xs ys n zs e =
+    ap₂ (λ (k l : List ℕ). k ++ (zs ++ l)) (take-append-le n xs ys (omega arith)) (drop-at xs ys (n + length zs) e)
+    ∙ sym (append-assoc (take n xs) zs ys)
+
+-- a byte stored with its last bits replaced is those bits put among the bits
+set-bitsOf : (bytes : List ℕ) (i r number : ℕ) → i < 8 * length bytes
+    → byteBits r ≡ take (i % 8) (byteBits (getD bytes (i / 8) 0)) ++ toBits (8 - i % 8) number
+    → bitsOf (set bytes (i / 8) r) ≡ put (bitsOf bytes) i (toBits (8 - i % 8) number)
 unfolding byteBits
-set-bitsOf [] i r bit h e = absurd (omega arith)
-set-bitsOf (b ∷ bytes) i r bit h e = go (λ n k f. set-bitsOf bytes n r bit k f) (ltb i 8) refl
+set-bitsOf [] i r number h e = absurd (omega arith)
+set-bitsOf (b ∷ bytes) i r number h e = go (λ n k f. set-bitsOf bytes n r number k f) (ltb i 8) refl
   where
-    go : ((n : ℕ) → n < 8 * length bytes → byteBits r ≡ set (byteBits (getD bytes (n / 8) 0)) (n % 8) bit → bitsOf (set bytes (n / 8) r) ≡ set (bitsOf bytes) n bit)
-        → (t : Bool) → ltb i 8 ≡ t → bitsOf (set (b ∷ bytes) (i / 8) r) ≡ set (toBits 8 b ++ bitsOf bytes) i bit
+    go : ((n : ℕ) → n < 8 * length bytes → byteBits r ≡ take (n % 8) (byteBits (getD bytes (n / 8) 0)) ++ toBits (8 - n % 8) number
+        → bitsOf (set bytes (n / 8) r) ≡ put (bitsOf bytes) n (toBits (8 - n % 8) number))
+        → (t : Bool) → ltb i 8 ≡ t → bitsOf (set (b ∷ bytes) (i / 8) r) ≡ put (toBits 8 b ++ bitsOf bytes) i (toBits (8 - i % 8) number)
     go ih true t =
         let low : i < 8 = ltb-true i 8 t in
         let q : i / 8 ≡ 0 = omega arith in
         let m : i % 8 ≡ i = omega arith in
+        let new : List ℕ = toBits (8 - i % 8) number in
         ap (λ (n : ℕ). bitsOf (set (b ∷ bytes) n r)) q
         ∙ ap (λ (k : List ℕ). k ++ bitsOf bytes)
-        (e ∙ ap₂ (λ (n k : ℕ). set (byteBits (getD (b ∷ bytes) n 0)) k bit) q m)
-        ∙ sym (set-append-left (toBits 8 b) (bitsOf bytes) i bit low)
+        (e ∙ ap₂ (λ (n k : ℕ). take k (byteBits (getD (b ∷ bytes) n 0)) ++ new) q m)
+        ∙ sym (put-append-end (toBits 8 b) (bitsOf bytes) i new (omega (arith, length-toBits (8 - i % 8) number)))
     go ih false t =
         let over : 8 ≤ i = ltb-false i 8 t in
         let n : ℕ = i - 8 in
         let f : i ≡ 8 + n = omega arith in
         let q : i / 8 ≡ suc (n / 8) = omega arith in
         let m : i % 8 ≡ n % 8 = omega arith in
+        let same : toBits (8 - i % 8) number ≡ toBits (8 - n % 8) number = ap (λ (k : ℕ). toBits (8 - k) number) m in
         ap (λ (k : ℕ). bitsOf (set (b ∷ bytes) k r)) q
         ∙ ap (λ (k : List ℕ). toBits 8 b ++ k)
-        (ih n (omega arith) (e ∙ ap₂ (λ (j k : ℕ). set (byteBits (getD (b ∷ bytes) j 0)) k bit) q m))
-        ∙ sym (ap (λ (k : ℕ). set (toBits 8 b ++ bitsOf bytes) k bit) f ∙ set-append-add (toBits 8 b) (bitsOf bytes) n bit)
+        (ih n (omega arith) (e ∙ ap₂ (λ (j k : ℕ). take k (byteBits (getD (b ∷ bytes) j 0)) ++ toBits (8 - k) number) q m))
+        ∙ sym (ap₂ (λ (k : ℕ) (l : List ℕ). put (toBits 8 b ++ bitsOf bytes) k l) f same ∙ put-append-add (toBits 8 b) (bitsOf bytes) n (toBits (8 - n % 8) number))
+
+-- the byte at a position, stored with as many of its last bits replaced as it has room for
+pub part-stored : (bytes : List ℕ) (i byte room r number : ℕ) → i < 8 * length bytes → byte ≡ getD bytes (i / 8) 0 → room ≡ 8 - i % 8
+    → byteBits r ≡ take (8 - room) (byteBits byte) ++ toBits room number
+    → bitsOf (set bytes (i / 8) r) ≡ put (bitsOf bytes) i (toBits (8 - i % 8) number)
+part-stored bytes i byte room r number h p q e =
+    let before : 8 - room ≡ i % 8 = omega arith in
+    set-bitsOf bytes i r number h
+    (e
+    ∙ ap₂ (λ (n k : ℕ). take n (byteBits k) ++ toBits room number) before p
+    ∙ ap (λ (n : ℕ). take (i % 8) (byteBits (getD bytes (i / 8) 0)) ++ toBits n number) q)
+
+-- a whole byte stored
+pub byte-stored : (bytes : List ℕ) (i number : ℕ) → i < length bytes → bitsOf (set bytes i (number % 256)) ≡ put (bitsOf bytes) (8 * i) (toBits 8 number)
+byte-stored bytes i number h =
+    let place : 8 * i / 8 ≡ i = omega arith in
+    let front : 8 * i % 8 ≡ 0 = omega arith in
+    sym (ap (λ (n : ℕ). bitsOf (set bytes n (number % 256))) place)
+    ∙ set-bitsOf bytes (8 * i) (number % 256) number (omega arith)
+    (byte-rest number ∙ sym (ap (λ (n : ℕ). take n (byteBits (getD bytes (8 * i / 8) 0)) ++ toBits (8 - n) number) front))
+    ∙ ap (λ (n : ℕ). put (bitsOf bytes) (8 * i) (toBits (8 - n) number)) front
 
 -- bytes of one length count as many bits
 pub counted-same : (a b : List ℕ) → length a ≡ length b → length (counted a) ≡ length (counted b)
 counted-same a b e = omega (arith, length-counted a, length-counted b)
 
+-- nothing has been put yet
+pub put-none : (old : List ℕ) (at count number : ℕ) → bitsOf old ≡ put (bitsOf old) at (toBits (count - count) (number / 2 ^ count))
+put-none old at count number =
+    let l : List ℕ = bitsOf old in
+    let z : 0 ≡ count - count = omega arith in
+    let same : at ≡ at + 0 = omega arith in
+    sym (take-append-drop at l)
+    ∙ ap (λ (n : ℕ). take at l ++ drop n l) same
+    ∙ ap (λ (n : ℕ). put l at (toBits n (number / 2 ^ count))) z
+
+-- bits put after bits that were put
+put-after : (l : List ℕ) (at here : ℕ) (a b : List ℕ) → at ≤ length l → here ≡ at + length a → put (put l at a) here b ≡ put l at (a ++ b)
+put-after l at here a b h e =
+    let p : List ℕ = take at l ++ a in
+    let long : length p ≡ here = length-append (take at l) a ∙ ap (λ (n : ℕ). n + length a) (length-take-le at l h) ∙ sym e in
+    let end : here + length b ≡ at + length (a ++ b) = omega (arith, e, length-append a b) in
+    ap (λ (k : List ℕ). put k here b) (sym (append-assoc (take at l) a (drop (at + length a) l)) ∙ ap (λ (n : ℕ). p ++ drop n l) (sym e))
+    ∙ put-next p l b here long
+    ∙ ap (λ (n : ℕ). (p ++ b) ++ drop n l) end
+    ∙ ap (λ (k : List ℕ). k ++ drop (at + length (a ++ b)) l) (append-assoc (take at l) a b)
+    ∙ append-assoc (take at l) (a ++ b) (drop (at + length (a ++ b)) l)
+
 -- one turn of putting bits
-pub put-turn : (old now last : List ℕ) (at count number i v : ℕ) → at + count ≤ length (counted old) → i < count
-    → bitsOf now ≡ paste (bitsOf old) at (toBits count number) i → v ≡ number / 2 ^ (count - 1 - i) % 2 → bitsOf last ≡ set (bitsOf now) (at + i) v
-    → bitsOf last ≡ paste (bitsOf old) at (toBits count number) (i + 1)
-put-turn old now last at count number i v fits h inv q e =
+pub put-turn : (old now last : List ℕ) (at count number here left room rest : ℕ) → at + count ≤ length (counted old) → left ≤ count
+    → here ≡ at + (count - left) → left ≡ rest + room
+    → bitsOf now ≡ put (bitsOf old) at (toBits (count - left) (number / 2 ^ left))
+    → bitsOf last ≡ put (bitsOf now) here (toBits room (number / 2 ^ rest))
+    → bitsOf last ≡ put (bitsOf old) at (toBits (count - rest) (number / 2 ^ rest))
+put-turn old now last at count number here left room rest fits few place parts inv e =
+    let l : List ℕ = bitsOf old in
+    let first : List ℕ = toBits (count - left) (number / 2 ^ left) in
+    let next : List ℕ = toBits room (number / 2 ^ rest) in
+    let many : count - rest ≡ count - left + room = omega arith in
+    let same : number / 2 ^ rest / 2 ^ room ≡ number / 2 ^ left = shr-shr number rest room ∙ ap (λ (n : ℕ). number / 2 ^ n) (sym parts) in
+    let joined : first ++ next ≡ toBits (count - rest) (number / 2 ^ rest)
+    = sym (ap (λ (n : ℕ). toBits n (number / 2 ^ rest)) many
+    ∙ toBits-split (count - left) room (number / 2 ^ rest)
+    ∙ ap (λ (n : ℕ). toBits (count - left) n ++ next) same) in
     e
-    ∙ ap₂ (λ (k : List ℕ) (n : ℕ). set k (at + i) n) inv (q ∙ sym (getD-toBits count number i h))
-    ∙ paste-suc (bitsOf old) at (toBits count number) i 0 (omega (arith, length-counted old, length-bitsOf old)) (omega (arith, length-toBits count number))
-    ∙ ap (λ (n : ℕ). paste (bitsOf old) at (toBits count number) n) (sym (add-one i))
+    ∙ ap (λ (k : List ℕ). put k here next) inv
+    ∙ put-after l at here first next (omega (arith, length-counted old, length-bitsOf old)) (omega (arith, place, length-toBits (count - left) (number / 2 ^ left)))
+    ∙ ap (put l at) joined
+
+-- bits put in two parts
+pub put-both : (old now last : List ℕ) (at here number count room rest : ℕ) → at + count ≤ length (counted old) → here ≡ at + room → count ≡ rest + room
+    → bitsOf now ≡ put (bitsOf old) at (toBits room (number / 2 ^ rest)) → bitsOf last ≡ put (bitsOf now) here (toBits rest number)
+    → bitsOf last ≡ put (bitsOf old) at (toBits count number)
+put-both old now last at here number count room rest fits place parts e f =
+    let first : List ℕ = toBits room (number / 2 ^ rest) in
+    let many : room + rest ≡ count = omega arith in
+    f
+    ∙ ap (λ (k : List ℕ). put k here (toBits rest number)) e
+    ∙ put-after (bitsOf old) at here first (toBits rest number) (omega (arith, length-counted old, length-bitsOf old))
+    (place ∙ ap (λ (n : ℕ). at + n) (sym (length-toBits room (number / 2 ^ rest))))
+    ∙ ap (put (bitsOf old) at) (sym (toBits-split room rest number) ∙ ap (λ (n : ℕ). toBits n number) many)
+
+-- no bits to put
+pub put-nothing : (old : List ℕ) (at count number : ℕ) → count ≤ 0 → bitsOf old ≡ put (bitsOf old) at (toBits count number)
+put-nothing old at count number h =
+    let z : count ≡ 0 = omega arith in
+    put-none old at 0 number ∙ ap (λ (n : ℕ). put (bitsOf old) at (toBits n number)) (sym z)
 
 -- all bits have been put
-pub put-done : (old now : List ℕ) (at count number i : ℕ) → i ≤ count → count ≤ i → bitsOf now ≡ paste (bitsOf old) at (toBits count number) i
-    → bitsOf now ≡ put (bitsOf old) at (toBits count number)
-put-done old now at count number i a b e =
-    let l : List ℕ = toBits count number in
-    let f : i ≡ length l = omega (arith, length-toBits count number) in
-    e
-    ∙ ap (λ (n : ℕ). paste (bitsOf old) at l n) f
-    ∙ append-assoc (take at (bitsOf old)) (take (length l) l) (drop (at + length l) (bitsOf old))
-    ∙ ap (λ (k : List ℕ). take at (bitsOf old) ++ (k ++ drop (at + length l) (bitsOf old))) (take-length l)
+pub put-done : (old now : List ℕ) (at count number left : ℕ) → left ≡ 0
+    → bitsOf now ≡ put (bitsOf old) at (toBits (count - left) (number / 2 ^ left)) → bitsOf now ≡ put (bitsOf old) at (toBits count number)
+put-done old now at count number left z e =
+    let all : count - left ≡ count = omega arith in
+    let whole : number / 2 ^ left ≡ number = ap (λ (n : ℕ). number / 2 ^ n) z ∙ native.Mathlib.Nat.div-one number in
+    e ∙ ap₂ (λ (m n : ℕ). put (bitsOf old) at (toBits m n)) all whole
 
 -- ---- the code of a big magnitude
 

@@ -6,9 +6,7 @@ use Prim.Native.Nat.{ℕ}
 use lib.IntN.{ℤ, natAbs}
 use Rattle.ground.specs.Paper.{numberOf, one-answer, one-value}
 use Rattle.code.specs.Answers.{packedPaper, packedBack, packed-home, unpackedPaper, unpackedBack, unpacked-home}
-use Rattle.code.specs.Promise.{PackPromise, UnpackPromise, ReaderPromise, SignPromise}
-use denote.Ref.{RefT}
-use Rattle.code.specs.declared.Reader.{Reader}
+use Rattle.code.specs.Promise.{PackPromise, UnpackPromise, SignPromise}
 use Rattle.code.specs.declared.Packed.{Packed}
 use Rattle.code.specs.declared.Unpacked.{Unpacked}
 
@@ -20,10 +18,6 @@ pack-one p q = (one-answer packedPaper packedBack packed-home (p .answer) (q .an
 -- reading has one outcome, by `unpack`, by a reader and by the call above them
 pub unpack-one : {bytes : List ℕ} {at d : ℕ} {r s : Unpacked} → UnpackPromise bytes at d r → UnpackPromise bytes at d s → r ≡ s
 unpack-one p q = one-answer unpackedPaper unpackedBack unpacked-home (p .answer) (q .answer)
-
--- making and moving a reader have one outcome: the same lent bytes, the same position
-pub reader-one : {bytes : RefT (List ℕ)} {at : ℕ} {r s : Reader} → ReaderPromise bytes at r → ReaderPromise bytes at s → r ≡ s
-reader-one p q = λ i. record { bytes = one-value (p .lent) (q .lent) i; at = one-value (p .place) (q .place) i }
 
 -- one number for an answer of writing
 pub packed-number-one : (answer : Packed) {m n : ℕ} → m ≡ numberOf (packedPaper answer) → n ≡ numberOf (packedPaper answer) → m ≡ n

@@ -6,8 +6,6 @@ use Prim.Native.Nat.{ℕ, _<_}
 use lib.IntN.{ℤ}
 use Rattle.code.specs.Meaning.{packMeans, packLeaves, unpackMeans, signOf}
 use Rattle.code.specs.Answers.{packedPaper, unpackedPaper}
-use denote.Ref.{RefT}
-use Rattle.code.specs.declared.Reader.{Reader}
 use Rattle.code.specs.declared.Packed.{Packed}
 use Rattle.code.specs.declared.Unpacked.{Unpacked}
 
@@ -19,11 +17,6 @@ pub record PackPromise (buffer : List ℕ) (at : ℕ) (v : ℤ) (d : ℕ) (r : P
 -- reading answers what document 01 means
 pub record UnpackPromise (bytes : List ℕ) (at d : ℕ) (r : Unpacked) : Type 0 where
   pub answer : unpackedPaper r ≡ unpackMeans bytes at d
-
--- a reader holds the lent bytes themselves and a bit position
-pub record ReaderPromise (bytes : RefT (List ℕ)) (at : ℕ) (r : Reader) : Type 0 where
-  pub lent : r .bytes ≡ bytes
-  pub place : r .at ≡ at
 
 -- a sign bit: 1 for negative, and a bit
 pub record SignPromise (v : ℤ) (r : ℕ) : Type 0 where

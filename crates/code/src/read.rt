@@ -1,7 +1,7 @@
 // Reading a code bit by bit: each function answers for what follows one part of the code.
 use crate::Unpacked;
 ghost use mathlib.Core.Path.{_≡_};
-ghost use Prim.Native.Nat.{ℕ, _+_, _-_, _*_, _/_, _%_, _^_, _<_, _≤_};
+ghost use Prim.Native.Nat.{_+_, _-_, _*_, _/_, _%_, _^_, _<_, _≤_};
 ghost use lib.ListN.{length, getD, take, drop as dropped};
 ghost use Rattle.code.specs.Meaning.{counted, parse, afterSign, afterRun, fromBits, filled, signed, bigField, largest, longestRun};
 ghost use Rattle.code.specs.Shapes.{Drop};

@@ -1,12 +1,13 @@
-// Writing a code: its bits as a number, put bit by bit at a position.
+// Writing a code: its bits as a number, put byte by byte at a position.
 use crate::Packed;
 use crate::read;
 ghost use mathlib.Core.Path.{_≡_};
 ghost use Prim.Native.Nat.{_+_, _-_, _*_, _/_, _%_, _^_, _<_, _≤_};
-ghost use lib.ListN.{length, set};
+ghost use lib.ListN.{length, take};
+ghost use mathlib.Core.List.{_++_};
 ghost use Rattle.ground.specs.Bits.{toBits, bitsOf};
 ghost use Rattle.ground.specs.Putting.{put as putOver};
-ghost use Rattle.code.specs.Meaning.{leastCoded, leading as leadingPlace, shapeOf, bits, coded as codedBits, bigOf, counted, toByteEnd, bytesWith, largest, longestRun};
+ghost use Rattle.code.specs.Meaning.{leastCoded, leading as leadingPlace, shapeOf, bits, coded as codedBits, bigOf, counted, toByteEnd, largest, longestRun};
 ghost use Rattle.code.specs.Shapes.{Drop};
 ghost use Rattle.code.specs.Steps.{Holds, PlacePromise, byteBits};
 
@@ -138,56 +139,83 @@ fn to_byte_end(at: u64) -> u32
     ((8 - at % 8) % 8) as u32
 }
 
-// Bits put one after the other.
+// Bits that end where a byte ends: as many as the first byte has room for, then whole bytes.
 fn put(buffer: &mut [u8], at: u64, number: u64, count: u32)
-    requires { ⌜ (at + count ≤ length (counted (now buffer))) × (count ≤ 40) ⌝ }
+    requires { ⌜ (at + count ≤ length (counted (now buffer))) × (count ≤ 40) × ((at + count) % 8 ≡ 0) × (number < 2 ^ count) ⌝ }
     ensures { λ _. ⌜ bitsOf (now (buffer .exit)) ≡ putOver (bitsOf (now (buffer .entry))) at (toBits count number) ⌝ }
 {
-    let mut i: u32 = 0;
-    while i < count {
-        put_bit(buffer, at + i as u64, digit(number, count - 1 - i));
+    if 0 < count {
+        let left = count - room_at(at);
+        put_part(buffer, at, number >> left);
+        put_bytes(buffer, (at / 8) as usize + 1, number, left);
+    }
+}
+
+// Bits put as whole bytes, from a byte on.
+fn put_bytes(buffer: &mut [u8], first: usize, number: u64, count: u32)
+    requires { ⌜ (8 * first + count ≤ length (counted (now buffer))) × (count ≤ 40) × (count % 8 ≡ 0) ⌝ }
+    ensures { λ _. ⌜ bitsOf (now (buffer .exit)) ≡ putOver (bitsOf (now (buffer .entry))) (8 * first) (toBits count number) ⌝ }
+{
+    let mut left = count;
+    let mut i = first;
+    while 0 < left {
+        left -= eight_of(left);
+        put_byte(buffer, i, number >> left);
         i += 1;
     }
 }
 
-// A bit of a number.
-fn digit(number: u64, place: u32) -> u32
-    requires { ⌜ place < 64 ⌝ }
-    ensures { λ r. ⌜ (r ≡ number / 2 ^ place % 2) × (r < 2) ⌝ }
+// How many bits the next whole byte takes of those that are left: eight, where so many are left.
+fn eight_of(left: u32) -> u32
+    ensures { λ r. ⌜ (r ≤ 8) × (r ≤ left) × (8 ≤ left → r ≡ 8) ⌝ }
 {
-    ((number >> place) % 2) as u32
+    if left < 8 { left } else { 8 }
 }
 
-// One bit put at a position.
-fn put_bit(buffer: &mut [u8], at: u64, bit: u32)
-    requires { ⌜ (at < length (counted (now buffer))) × (bit < 2) ⌝ }
-    ensures { λ _. ⌜ bitsOf (now (buffer .exit)) ≡ set (bitsOf (now (buffer .entry))) at bit ⌝ }
+// The last eight bits of a number put as a byte.
+fn put_byte(buffer: &mut [u8], i: usize, number: u64)
+    requires { ⌜ i < length (now buffer) ⌝ }
+    ensures { λ _. ⌜ bitsOf (now (buffer .exit)) ≡ putOver (bitsOf (now (buffer .entry))) (8 * i) (toBits 8 number) ⌝ }
+{
+    buffer[i] = (number % 256) as u8;
+}
+
+// How many bits of its byte there are from a position on.
+fn room_at(at: u64) -> u32
+    ensures { λ r. ⌜ (r ≡ 8 - at % 8) × (0 < r) × (r ≤ 8) ⌝ }
+{
+    (8 - at % 8) as u32
+}
+
+// Bits put at a position, as many as its byte has room for.
+fn put_part(buffer: &mut [u8], at: u64, number: u64)
+    requires { ⌜ (at < length (counted (now buffer))) × (number < 2 ^ (8 - at % 8)) ⌝ }
+    ensures { λ _. ⌜ bitsOf (now (buffer .exit)) ≡ putOver (bitsOf (now (buffer .entry))) at (toBits (8 - at % 8) number) ⌝ }
 {
     let i = (at / 8) as usize;
-    let byte = with_bit(byte_wide(buffer[i]), (at % 8) as u32, bit);
+    let byte = filled(byte_wide(buffer[i]), room_at(at), number);
     buffer[i] = byte as u8;
 }
 
 // A byte as a number to compute with.
-fn byte_wide(byte: u8) -> u32
+fn byte_wide(byte: u8) -> u64
     ensures { λ r. ⌜ (r ≡ byte) × (r < 256) ⌝ }
 {
-    byte as u32
+    byte as u64
 }
 
-// A byte with one of its bits put, the most significant first.
-fn with_bit(byte: u32, place: u32, bit: u32) -> u32
-    requires { ⌜ (byte < 256) × (place < 8) × (bit < 2) ⌝ }
-    ensures { λ r. ⌜ (byteBits r ≡ set (byteBits byte) place bit) × (r < 256) ⌝ }
+// A byte whose last bits are those of a number.
+fn filled(byte: u64, room: u32, number: u64) -> u64
+    requires { ⌜ (byte < 256) × (room ≤ 8) × (number < 2 ^ room) ⌝ }
+    ensures { λ r. ⌜ (byteBits r ≡ take (8 - room) (byteBits byte) ++ toBits room number) × (r < 256) ⌝ }
 {
-    let unit = power(7 - place);
-    replaced(byte / unit, bit) * unit + byte % unit
+    kept(byte, room) + number
 }
 
-// Bits with another last one.
-fn replaced(high: u32, bit: u32) -> u32
-    requires { ⌜ (high < 256) × (bit < 2) ⌝ }
-    ensures { λ r. ⌜ r ≡ high / 2 * 2 + bit ⌝ }
+// A byte without its last bits.
+fn kept(byte: u64, room: u32) -> u64
+    requires { ⌜ (byte < 256) × (room ≤ 8) ⌝ }
+    ensures { λ r. ⌜ r ≡ byte / 2 ^ room * 2 ^ room ⌝ }
 {
-    high / 2 * 2 + bit
+    (byte >> room) << room
 }

@@ -8,8 +8,10 @@ pub use Rattle.crc.specs.OneOutcome.{checksum-one}
 pub use Rattle.packet.specs.OneOutcome.{find-one, header-one, payload-one, write-one as packet-write-one, found-number-one, headed-number-one, written-number-one as packet-written-number-one}
 -- messages
 pub use Rattle.message.specs.OneOutcome.{read-one as message-read-one, write-one as message-write-one, read-number-one, written-number-one as message-written-number-one}
--- packed codes: pack; unpack, next_code and read_at; reader_at and moved_to; magnitude; sign
-pub use Rattle.code.specs.OneOutcome.{pack-one, unpack-one, reader-one, magnitude-one, sign-one, packed-number-one, unpacked-number-one}
+-- packed codes: pack; unpack, and a reader's next_code and read_at; magnitude; sign
+pub use Rattle.code.specs.OneOutcome.{pack-one, unpack-one, magnitude-one, sign-one, packed-number-one, unpacked-number-one}
+-- the reader: reader_at and moved_to
+pub use Rattle.reader.specs.OneOutcome.{reader-one}
 -- plain formats
 pub use Rattle.format.specs.OneOutcome.{float16-code-one, float16-count-one, float8-code-one, float8-count-one, int24-code-one, int24-count-one}
 pub use Rattle.format.specs.OneOutcome.{code16-number-one, code8-number-one, code24-number-one, count24-number-one}

@@ -45,8 +45,12 @@ add-put c = search needs
 
 put-requires : tie.Need-put-requires
 put-requires c κs =
-    let a = c .before .before .before .before .before .before .before .before .args in
-    (omega (arith, length-counted (a .buffer .now), c .before .before .to-byte-end .ensures .0), omega arith)
+    let a = c .before .before .before .before .before .before .before .before .args in (
+      omega (arith, length-counted (a .buffer .now), c .before .before .to-byte-end .ensures .0),
+      omega arith,
+      omega (arith, c .before .before .to-byte-end .ensures .0),
+      c .join .ensures .1,
+    )
 
 same-length-3 : tie.Need-same-length-3
 same-length-3 c = search needs

@@ -1,92 +1,78 @@
--- `code::write::put` meets its contract: after i turns the first i bits stand at their places.
+-- `code::write::put` meets its contract: the first byte's part and the whole bytes after it are all the bits.
 -- Assumes nothing.
-use mathlib.Core.Path.{_≡_, refl, _∙_}
-use Prim.Native.Nat.{_-_, _≤_}
-use lib.ListN.{length}
-use lib.Seq.{paste, paste-zero}
-use Rattle.ground.specs.Bits.{toBits, bitsOf}
-use Rattle.code.specs.Positions.{length-counted}
-use Rattle.code.proofs.Writing.{put-turn, put-done, counted-same}
+use Prim.Native.Nat.{_-_, _%_, _*_, _+_, _/_}
+use Rattle.code.proofs.Writing.{put-both, put-nothing, counted-same, first-lt}
 use native.Mathlib.Omega.{arith}
+use borrow.Author.Needs.{needs}
 use Rattle.code.proofs.write.put.Statement.{statement}
 use Rattle.code.proofs.write.put.Tie as tie
 
-abbrev Inv-loop : tie.InvT-loop
-Inv-loop buffer₀ at number count i₀ buffer i =
-    (i ≤ count) × (length buffer ≡ length buffer₀) × (bitsOf buffer ≡ paste (bitsOf buffer₀) at (toBits count number) i)
+room-at-requires : tie.Need-room-at-requires
+room-at-requires c κs = search needs
 
-abbrev μ-loop : tie.MeasureT-loop
-μ-loop buffer₀ at number count i₀ buffer i = count - i
+sub-left : tie.Need-sub-left
+sub-left c = search needs
 
-loop-holds : tie.Need-loop-holds Inv-loop μ-loop
-loop-holds c =
-    let a = c .before .args in
-    (omega arith, refl, paste-zero (bitsOf (a .buffer .now)) (a .at) (toBits (a .count) (a .number)))
+cast-put-part : tie.Need-cast-put-part
+cast-put-part c = search needs
 
-cast-put-bit : tie.Need-cast-put-bit Inv-loop μ-loop
-cast-put-bit c = omega arith
+shr-put-part : tie.Need-shr-put-part
+shr-put-part c = search needs
 
-add-put-bit : tie.Need-add-put-bit Inv-loop μ-loop
-add-put-bit c = omega (arith, length-counted (c .before .before .before .before .args .buffer .now))
-
-sub-digit : tie.Need-sub-digit Inv-loop μ-loop
-sub-digit c = omega arith
-
-sub-digit-2 : tie.Need-sub-digit-2 Inv-loop μ-loop
-sub-digit-2 c = omega arith
-
-digit-requires : tie.Need-digit-requires Inv-loop μ-loop
-digit-requires c κs = omega arith
-
-put-bit-requires : tie.Need-put-bit-requires Inv-loop μ-loop
-put-bit-requires c κs =
-    let l = c .before .before .before .loop in
-    let b = c .before .before .before .before .before .args .buffer .now in
-    (omega (arith, counted-same (l .buffer) b (l .inv .1)), c .digit .ensures .1)
-
-add-i : tie.Need-add-i Inv-loop μ-loop
-add-i c = omega arith
-
-loop-less : tie.Need-loop-less Inv-loop μ-loop
-loop-less c = omega arith
-
-loop-again : tie.Need-loop-again Inv-loop μ-loop
-loop-again c =
-    let a = c .before .before .before .before .before .before .before .before .args in
-    let p = c .before .before .before .before .before .before .before .before .pre in
-    let l = c .before .before .before .before .before .before .loop in
-    let b = c .before .before .put-bit in
-    let d = c .before .before .before .digit in (
-      omega arith,
-      b .kept .0 ∙ l .inv .1,
-      put-turn (a .buffer .now) (l .buffer) (b .last .0) (a .at) (a .count) (a .number) (l .i) (d .result) (p .0)
-          (c .before .before .before .before .before .loop-test .taken) (l .inv .2) (d .ensures .0) (b .ensures),
+put-part-requires : tie.Need-put-part-requires
+put-part-requires c κs =
+    let s = c .before .before .before .before in
+    let r = c .before .room-at in
+    let t = c .before .before .if1 .taken in (
+      omega (arith, s .pre .0, t),
+      first-lt (s .args .number) (s .args .count) (s .args .count - r .result) (8 - s .args .at % 8) (s .pre .3) (omega (arith, s .pre .2, r .ensures .0, t)),
     )
 
-same-length : tie.Need-same-length Inv-loop μ-loop
-same-length c = c .before .loop .inv .1
+add-put-bytes : tie.Need-add-put-bytes
+add-put-bytes c = search needs
 
-returns : tie.Need-returns Inv-loop μ-loop
+put-bytes-requires : tie.Need-put-bytes-requires
+put-bytes-requires c κs =
+    let s = c .before .before .before .before .before .before .before .before in
+    let r = c .before .before .before .before .before .room-at in
+    let t = c .before .before .before .before .before .before .if1 .taken in
+    let p = c .before .before .before .put-part in
+    let q = counted-same (p .last .0) (s .args .buffer .now) (p .kept .0) in (
+      omega (arith, s .pre .0, s .pre .2, r .ensures .0, q, t),
+      omega (arith, s .pre .1),
+      omega (arith, s .pre .2, r .ensures .0, t),
+    )
+
+same-length : tie.Need-same-length
+same-length c = search needs
+
+returns : tie.Need-returns
 returns c =
-    let a = c .before .before .before .args in
-    let l = c .before .loop in
-    put-done (a .buffer .now) (l .buffer) (a .at) (a .count) (a .number) (l .i) (l .inv .0) (c .loop-test .left) (l .inv .2)
+    let s = c .before .before .before .before .before .before .before .before .before .before .before in
+    let r = c .before .before .before .before .before .before .before .before .room-at in
+    let t = c .before .before .before .before .before .before .before .before .before .if1 .taken in
+    let p = c .before .before .before .before .before .before .put-part in
+    let q = c .before .before .put-bytes in
+    let a = s .args in
+    put-both (a .buffer .now) (p .last .0) (q .last .0) (a .at) (8 * (a .at / 8 + 1)) (a .number) (a .count) (8 - a .at % 8) (a .count - r .result) (s .pre .0)
+    (omega arith) (omega (arith, s .pre .2, r .ensures .0, t)) (p .ensures) (q .ensures)
+
+returns-2 : tie.Need-returns-2
+returns-2 c =
+    let a = c .before .before .args in
+    put-nothing (a .buffer .now) (a .at) (a .count) (a .number) (c .if1 .left)
 
 pub put-spec : {M : Type 1} → statement M
 put-spec =
     tie.close
     (tie.spec
-    Inv-loop
-    μ-loop
-    loop-holds
-    cast-put-bit
-    add-put-bit
-    sub-digit
-    sub-digit-2
-    digit-requires
-    put-bit-requires
-    add-i
-    loop-less
-    loop-again
+    room-at-requires
+    sub-left
+    cast-put-part
+    shr-put-part
+    put-part-requires
+    add-put-bytes
+    put-bytes-requires
     same-length
-    returns)
+    returns
+    returns-2)

@@ -1,4 +1,4 @@
--- `code::next_code` meets its contract: a walk of its MIR, by hand. The struct is taken apart, and `unpack` is called on the slice and the number. All that the proof knows of `unpack` is that it meets its contract.
+-- `reader::next_code` meets its contract: a walk of its MIR, by hand. The struct is taken apart, and `unpack` is called on the slice and the number. All that the proof knows of `unpack` is that it meets its contract.
 -- The struct is Copy: what it owns is had twice, one copy is kept whole for the exit, and of the other what bytes owns goes to the callee, beside the lifetime's token, which comes back.
 -- Assumes nothing.
 use mathlib.Core.Path.{_≡_, refl}
@@ -43,21 +43,21 @@ use denote.Triple.Table.{entered, cited}
 use denote.Triple.Walked.{says, Stays, stay-none, walkOf, goes-none, Walks, ends-at, walked, walk-meets}
 use denote.Exit.{yes}
 use denote.Triple.Clauses.{ensured, lasts}
 use Rattle.code.specs.Promise.{UnpackPromise}
-use Rattle.code.specs.declared.Reader.{Reader}
+use Rattle.reader.specs.declared.Reader.{Reader}
 use Rattle.code.specs.declared.Unpacked.{Unpacked}
-use Rattle.code.proofs.Reader as T
-use Rattle.code.proofs.Reader.Laws as T′
+use Rattle.reader.proofs.Reader as T
+use Rattle.reader.proofs.Reader.Laws as T′
 use Rattle.code.proofs.Unpacked as S
 use Rattle.code.proofs.Unpacked.Laws as S′
 use Rattle.code.proofs.unpack as step
 use Rattle.code.proofs.unpack.Symbol as step-def
 use Rattle.code.proofs.unpack.Symbol.{name as #code·unpack}
 use Rattle.code.proofs.unpack.Met as step-thm
-use Rattle.code.proofs.next_code.Key.{name as #code·next-code}
-use Rattle.code.proofs.next_code as next
-use Rattle.code.proofs.next_code.Statement as stated
-use Rattle.code.proofs.next_code.Code as code
+use Rattle.reader.proofs.next_code.Key.{name as #reader·next-code}
+use Rattle.reader.proofs.next_code as next
+use Rattle.reader.proofs.next_code.Statement as stated
+use Rattle.reader.proofs.next_code.Code as code
 
 -- the struct's type, over the signature's lifetimes
 abbrev B : Lfts 1 → RattleType
@@ -165,6 +165,6 @@ pub next-code-spec : {M : Type 1} → stated.statement M
 unfolding code.routine tablesOf
 next-code-spec 𝓤 H 𝓜 𝓖 𝓡 =
     entered 𝓤 H (tripleOf 𝓤 H (𝓖 .A) next.signature (next.spec 𝓤 H (𝓖 .A) (𝓜 .mem) (𝓡 .run)))
-    (tables 𝓤 H 𝓜 𝓡 code.env .C) (tables 𝓤 H 𝓜 𝓡 code.env .Λ) #code·next-code code.function (code.unfolded 𝓤 H 𝓜 𝓡)
+    (tables 𝓤 H 𝓜 𝓡 code.env .C) (tables 𝓤 H 𝓜 𝓡 code.env .Λ) #reader·next-code code.function (code.unfolded 𝓤 H 𝓜 𝓡)
     (next-meets 𝓤 H (𝓖 .A) (givenOf 𝓤 H 𝓜 𝓖) (𝓜 .mem) (𝓡 .run) (tablesOf 𝓤 H 𝓜 (tables 𝓤 H 𝓜 𝓡 code.env))
     (cited 𝓤 H (Call 𝓤 H (𝓖 .A) (𝓜 .mem) (𝓡 .run)) 𝓜 𝓡 code.env #code·unpack step-def.routine code.calls-code·unpack (step-thm.met 𝓤 H 𝓜 𝓖 𝓡)))

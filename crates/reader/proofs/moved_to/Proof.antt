@@ -1,4 +1,4 @@
--- `code::moved_to` meets its contract: a walk of its MIR, by hand. A struct is made anew of the slice that the one passed holds, and another number.
+-- `reader::moved_to` meets its contract: a walk of its MIR, by hand. A struct is made anew of the slice that the one passed holds, and another number.
 -- The struct is Copy: what it owns is had twice, one copy is kept whole for the exit, and the other, with the facts of the number in the place of at's, is what the result owns.
 -- Assumes nothing.
 use mathlib.Core.Path.{refl}
@@ -34,13 +34,13 @@ use denote.Triple.Spec.{Meets, tripleOf}
 use denote.Triple.Table.{entered}
 use denote.Triple.Walked.{says, Stays, stay-none, walkOf, goes-none, Walks, ends-at, walked, walk-meets}
 use denote.Exit.{yes}
-use Rattle.code.specs.declared.Reader.{Reader}
-use Rattle.code.proofs.Reader as T
-use Rattle.code.proofs.Reader.Laws as T′
-use Rattle.code.proofs.moved_to.Key.{name as #code·moved-to}
-use Rattle.code.proofs.moved_to as moved
-use Rattle.code.proofs.moved_to.Statement as stated
-use Rattle.code.proofs.moved_to.Code as code
+use Rattle.reader.specs.declared.Reader.{Reader}
+use Rattle.reader.proofs.Reader as T
+use Rattle.reader.proofs.Reader.Laws as T′
+use Rattle.reader.proofs.moved_to.Key.{name as #reader·moved-to}
+use Rattle.reader.proofs.moved_to as moved
+use Rattle.reader.proofs.moved_to.Statement as stated
+use Rattle.reader.proofs.moved_to.Code as code
 
 -- the struct's type, over the signature's lifetimes
 abbrev B : Lfts 1 → RattleType
@@ -96,5 +96,5 @@ pub moved-to-spec : {M : Type 1} → stated.statement M
 unfolding code.routine tablesOf
 moved-to-spec 𝓤 H 𝓜 𝓖 𝓡 =
     entered 𝓤 H (tripleOf 𝓤 H (𝓖 .A) moved.signature (moved.spec 𝓤 H (𝓖 .A) (𝓜 .mem) (𝓡 .run)))
-    (tables 𝓤 H 𝓜 𝓡 code.env .C) (tables 𝓤 H 𝓜 𝓡 code.env .Λ) #code·moved-to code.function (code.unfolded 𝓤 H 𝓜 𝓡)
+    (tables 𝓤 H 𝓜 𝓡 code.env .C) (tables 𝓤 H 𝓜 𝓡 code.env .Λ) #reader·moved-to code.function (code.unfolded 𝓤 H 𝓜 𝓡)
     (moved-meets 𝓤 H (𝓖 .A) (givenOf 𝓤 H 𝓜 𝓖) (𝓜 .mem) (𝓡 .run) (tablesOf 𝓤 H 𝓜 (tables 𝓤 H 𝓜 𝓡 code.env)))

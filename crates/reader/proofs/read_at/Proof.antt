@@ -1,4 +1,4 @@
--- `code::read_at` meets its contract: a walk of its MIR, by hand. A `Reader` that one call returns is held in a local and passed to the next. All that the proof knows of `reader_at` and of `next_code` is that each meets its contract.
+-- `reader::read_at` meets its contract: a walk of its MIR, by hand. A `Reader` that one call returns is held in a local and passed to the next. All that the proof knows of `reader_at` and of `next_code` is that each meets its contract.
 -- The machine value that `reader_at` returns is stored and passed on as it is. In a local of a body MIR erases the lifetime of the struct's type, so the value is shown to have the type at `erased`: what the struct owns does not say the lifetime's name.
 -- Assumes nothing.
 use mathlib.Core.Path.{refl, ap₂, _∙_}
@@ -38,26 +38,27 @@ use denote.Triple.Table.{entered, cited}
 use denote.Triple.Walked.{says, Stays, stay-none, stay-none-slice, walkOf, goes-none, goes-none-slice, Walks, ends-at, walked, walk-meets}
 use denote.Exit.{yes}
 use denote.Triple.Clauses.{ensured, lasts}
 use Rattle.code.specs.Meaning.{unpackMeans}
-use Rattle.code.specs.Promise.{UnpackPromise, ReaderPromise}
-use Rattle.code.specs.declared.Reader.{Reader}
+use Rattle.code.specs.Promise.{UnpackPromise}
+use Rattle.reader.specs.Promise.{ReaderPromise}
+use Rattle.reader.specs.declared.Reader.{Reader}
 use Rattle.code.specs.declared.Unpacked.{Unpacked}
-use Rattle.code.proofs.Reader as T
-use Rattle.code.proofs.Reader.Laws as T′
+use Rattle.reader.proofs.Reader as T
+use Rattle.reader.proofs.Reader.Laws as T′
 use Rattle.code.proofs.Unpacked as S
 use Rattle.code.proofs.Unpacked.Laws as S′
-use Rattle.code.proofs.reader_at as new
-use Rattle.code.proofs.reader_at.Symbol as new-def
-use Rattle.code.proofs.reader_at.Symbol.{name as #code·reader-at}
-use Rattle.code.proofs.reader_at.Met as new-thm
-use Rattle.code.proofs.next_code as next
-use Rattle.code.proofs.next_code.Symbol as next-def
-use Rattle.code.proofs.next_code.Symbol.{name as #code·next-code}
-use Rattle.code.proofs.next_code.Met as next-thm
-use Rattle.code.proofs.read_at.Key.{name as #code·read-at}
-use Rattle.code.proofs.read_at as first
-use Rattle.code.proofs.read_at.Statement as stated
-use Rattle.code.proofs.read_at.Code as code
+use Rattle.reader.proofs.reader_at as new
+use Rattle.reader.proofs.reader_at.Symbol as new-def
+use Rattle.reader.proofs.reader_at.Symbol.{name as #reader·reader-at}
+use Rattle.reader.proofs.reader_at.Met as new-thm
+use Rattle.reader.proofs.next_code as next
+use Rattle.reader.proofs.next_code.Symbol as next-def
+use Rattle.reader.proofs.next_code.Symbol.{name as #reader·next-code}
+use Rattle.reader.proofs.next_code.Met as next-thm
+use Rattle.reader.proofs.read_at.Key.{name as #reader·read-at}
+use Rattle.reader.proofs.read_at as first
+use Rattle.reader.proofs.read_at.Statement as stated
+use Rattle.reader.proofs.read_at.Code as code
 
 -- the struct's type, over the signature's lifetimes
 abbrev B : Lfts 1 → RattleType
@@ -127,7 +128,7 @@ module _ {M : Type 1} (𝓤 : URA M) (H : Heap 𝓤) (A : Atoms 𝓤) (W : Given
       suffices ! _ (ends-at 𝓤 H A first.ended stayed (first.clauses 𝓤 H A mem run) W (((κ, tt), (q, tt), tt, (s, (n, (k, tt))), at), tt) u t (tt, (tt, (tt, tt))) (tt, (tt, (tt, tt)))) $ says ! e $
       move ! (1 ∷ []) $ frame ! $ nothing ! $ owned ! u8 (Is u8) (uint-makes 𝓤 H A W w8) k _ (refl, ok) $ fjoin ! $ owned ! u64 (Is u64) (uint-makes 𝓤 H A W w64) n _ (refl, fits) $ fjoin ! $ move ! (2 ∷ 0 ∷ []) $ fjoin ! $ frame ! $ done !
 
-  module _ (C : Calls 𝓤 H) (Λ : Loops 𝓤 H) (fm : FmC 𝓤 H (W .laws) C) (known-new : Triple 𝓤 (C #code·reader-at) (New 𝓤 H A mem run)) (known-next : Triple 𝓤 (C #code·next-code) (Next 𝓤 H A mem run)) where
+  module _ (C : Calls 𝓤 H) (Λ : Loops 𝓤 H) (fm : FmC 𝓤 H (W .laws) C) (known-new : Triple 𝓤 (C #reader·reader-at) (New 𝓤 H A mem run)) (known-next : Triple 𝓤 (C #reader·next-code) (Next 𝓤 H A mem run)) where
     walk : Is (ShrSlice (named 0) κ u8) s (v ∷ []) → ent 𝓤 (onEntry 𝓤 H A first.signature (κ, tt) (q, tt) (s, (n, (k, tt))) at) (WpFn 𝓤 H C Λ code.function (v ∷ vint w64 n ∷ vint w8 k ∷ []) Post)
     walk p =
         qed W (raw (onEntry 𝓤 H A first.signature (κ, tt) (q, tt) (s, (n, (k, tt))) at) ∷ []) ∵ enter ! C Λ code.function (v ∷ vint w64 n ∷ vint w8 k ∷ []) _ $
@@ -151,13 +152,13 @@ module _ {M : Type 1} (𝓤 : URA M) (H : Heap 𝓤) (A : Atoms 𝓤) (W : Given
         by ! (exits t u′ (record { answer = e′ .answer ∙ ap₂ (λ (x : RefT (List ℕ)) (m : ℕ). unpackMeans (now x) m k) (e .lent) (e .place) })))))))))))))))
 
 module _ {M : Type 1} (𝓤 : URA M) (H : Heap 𝓤) (A : Atoms 𝓤) (W : Given 𝓤 H A) (mem : Memory → SProp 𝓤) (run : Routine → Fun 𝓤) where
-  first-walks : (C : Calls 𝓤 H) (Λ : Loops 𝓤 H) → FmC 𝓤 H (W .laws) C → Triple 𝓤 (C #code·reader-at) (New 𝓤 H A mem run) → Triple 𝓤 (C #code·next-code) (Next 𝓤 H A mem run)
+  first-walks : (C : Calls 𝓤 H) (Λ : Loops 𝓤 H) → FmC 𝓤 H (W .laws) C → Triple 𝓤 (C #reader·reader-at) (New 𝓤 H A mem run) → Triple 𝓤 (C #reader·next-code) (Next 𝓤 H A mem run)
       → Walks 𝓤 H A first.ended stayed (WpFn 𝓤 H C Λ code.function) (first.clauses 𝓤 H A mem run)
   first-walks C Λ fm known-new known-next = walked 𝓤 H A first.ended stayed (first.clauses 𝓤 H A mem run) (WpFn 𝓤 H C Λ code.function) (λ κs. (slice-vals, (uint-vals w64, (uint-vals w8, tt)))) (λ κs. (shr-slice-tells (named 0) (κs .0) u8, (uint-tells w64, (uint-tells w8, tt))))
       (λ κs qs bounds a g are. via 𝓤 _ (fst∗ 𝓤 _ (emp 𝓤)) (walk 𝓤 H A W mem run (κs .0) (qs .0) (a .0) (a .1 .0) (are .1 .0 .1) (a .1 .1 .0) (are .1 .1 .0 .1) C Λ fm known-new known-next (are .0)))
 
 first-meets : {M : Type 1} (𝓤 : URA M) (H : Heap 𝓤) (A : Atoms 𝓤) (W : Given 𝓤 H A) (mem : Memory → SProp 𝓤) (run : Routine → Fun 𝓤) (𝓣 : Tables 𝓤 H)
-    → Triple 𝓤 (𝓣 .C #code·reader-at) (New 𝓤 H A mem run) → Triple 𝓤 (𝓣 .C #code·next-code) (Next 𝓤 H A mem run)
+    → Triple 𝓤 (𝓣 .C #reader·reader-at) (New 𝓤 H A mem run) → Triple 𝓤 (𝓣 .C #reader·next-code) (Next 𝓤 H A mem run)
     → Meets 𝓤 H A first.signature (WpFn 𝓤 H (𝓣 .C) (𝓣 .Λ) code.function) (first.spec 𝓤 H A mem run)
 first-meets 𝓤 H A W mem run 𝓣 known-new known-next = walk-meets 𝓤 H A first.ended stayed W (goes-none-slice 𝓤 H A W 1 (0 ∷ []) tt (plain (λ _. u8)) yes, (goes-none 𝓤 H A W 1 (λ _. u64) yes (λ κs x f. refl), (goes-none 𝓤 H A W 1 (λ _. u8) yes (λ κs x f. refl), tt))) (first.clauses 𝓤 H A mem run) (WpFn 𝓤 H (𝓣 .C) (𝓣 .Λ) code.function) (WpFn-mono 𝓤 H (W .laws) 𝓣 code.function)
     (first-walks 𝓤 H A W mem run (𝓣 .C) (𝓣 .Λ) (fmOf 𝓤 H (W .laws) 𝓣) known-new known-next)
@@ -166,7 +167,7 @@ pub read-at-spec : {M : Type 1} → stated.statement M
 unfolding code.routine tablesOf
 read-at-spec 𝓤 H 𝓜 𝓖 𝓡 =
     entered 𝓤 H (tripleOf 𝓤 H (𝓖 .A) first.signature (first.spec 𝓤 H (𝓖 .A) (𝓜 .mem) (𝓡 .run)))
-    (tables 𝓤 H 𝓜 𝓡 code.env .C) (tables 𝓤 H 𝓜 𝓡 code.env .Λ) #code·read-at code.function (code.unfolded 𝓤 H 𝓜 𝓡)
+    (tables 𝓤 H 𝓜 𝓡 code.env .C) (tables 𝓤 H 𝓜 𝓡 code.env .Λ) #reader·read-at code.function (code.unfolded 𝓤 H 𝓜 𝓡)
     (first-meets 𝓤 H (𝓖 .A) (givenOf 𝓤 H 𝓜 𝓖) (𝓜 .mem) (𝓡 .run) (tablesOf 𝓤 H 𝓜 (tables 𝓤 H 𝓜 𝓡 code.env))
-    (cited 𝓤 H (New 𝓤 H (𝓖 .A) (𝓜 .mem) (𝓡 .run)) 𝓜 𝓡 code.env #code·reader-at new-def.routine code.calls-code·reader-at (new-thm.met 𝓤 H 𝓜 𝓖 𝓡))
-    (cited 𝓤 H (Next 𝓤 H (𝓖 .A) (𝓜 .mem) (𝓡 .run)) 𝓜 𝓡 code.env #code·next-code next-def.routine code.calls-code·next-code (next-thm.met 𝓤 H 𝓜 𝓖 𝓡)))
+    (cited 𝓤 H (New 𝓤 H (𝓖 .A) (𝓜 .mem) (𝓡 .run)) 𝓜 𝓡 code.env #reader·reader-at new-def.routine code.calls-reader·reader-at (new-thm.met 𝓤 H 𝓜 𝓖 𝓡))
+    (cited 𝓤 H (Next 𝓤 H (𝓖 .A) (𝓜 .mem) (𝓡 .run)) 𝓜 𝓡 code.env #reader·next-code next-def.routine code.calls-reader·next-code (next-thm.met 𝓤 H 𝓜 𝓖 𝓡)))
