@@ -1,17 +1,19 @@
--- `codes::print_piece` is safe and ends: each run gets on, so that the measure is the bytes that are left.
+-- `printing::print_runs` meets its contract. The loop's invariant: what is left comes to the same as the whole piece; each run gets
+-- on, so that the measure is the bytes that are left.
 -- Assumes nothing.
 use mathlib.Core.Path.{_≡_, sym}
 use Prim.Native.Nat.{_≤_, _-_}
-use Rattle.codes.proofs.Pieces.{stays, gets-on}
+use Rattle.printing.proofs.Pieces.{stays, gets-on, comes-to, all-taken}
 use borrow.Author.Needs.{needs}
-use lib.ListN.{length}
+use lib.ListN.{length, drop}
 use lib.Seq.{length-take-le}
 use Rattle.lines.specs.Moving.{run-put}
-use Rattle.codes.proofs.print_piece.Statement.{statement}
-use Rattle.codes.proofs.print_piece.Tie as tie
+use Rattle.lines.specs.After.{lineAfter}
+use Rattle.printing.proofs.print_runs.Statement.{statement}
+use Rattle.printing.proofs.print_runs.Tie as tie
 
 abbrev Inv-loop : tie.InvT-loop
-Inv-loop piece room₀ current₀ at₀ room current at = (at ≤ length piece) × (length room ≡ length room₀)
+Inv-loop piece room₀ current₀ at₀ room current at = (at ≤ length piece) × (length room ≡ length room₀) × (lineAfter current (drop at piece) ≡ lineAfter current₀ piece)
 
 abbrev μ-loop : tie.MeasureT-loop
 μ-loop piece room₀ current₀ at₀ room current at = length piece - at
@@ -47,16 +49,16 @@ loop-less : tie.Need-loop-less Inv-loop μ-loop
 loop-less c = gets-on (c .before .before .before .before .before .before .before .before .before .before .before .before .before .args .piece .now) (c .before .before .before .before .before .before .before .before .before .before .loop .at) (c .before .before .before .before .before .before .run .ensures) (c .before .before .before .before .before .before .before .before .before .loop-test .taken) (search needs)
 
 loop-again : tie.Need-loop-again Inv-loop μ-loop
-loop-again c = (stays (c .before .before .before .before .before .before .before .before .before .before .before .before .before .args .piece .now) (c .before .before .before .before .before .before .before .before .before .before .loop .at) (c .before .before .before .before .before .before .run .ensures) (c .before .before .before .before .before .before .before .before .before .loop-test .taken), search needs)
+loop-again c = (stays (c .before .before .before .before .before .before .before .before .before .before .before .before .before .args .piece .now) (c .before .before .before .before .before .before .before .before .before .before .loop .at) (c .before .before .before .before .before .before .run .ensures) (c .before .before .before .before .before .before .before .before .before .loop-test .taken), search needs, comes-to (c .before .before .before .before .before .before .before .before .before .before .before .before .before .args .piece .now) (c .before .before .before .before .before .before .before .before .before .before .loop .at) (c .before .before .before .before .before .before .run .ensures) (c .before .before .before .before .before .before .before .before .before .loop-test .taken) (c .before .before .before .before .before .before .before .before .before .before .loop .inv .2))
 
 same-length : tie.Need-same-length Inv-loop μ-loop
 same-length c = c .before .loop .inv .1
 
 returns : tie.Need-returns Inv-loop μ-loop
-returns c = search needs
+returns c = all-taken (c .before .before .before .before .args .piece .now) (c .before .loop .at) (c .before .loop .inv .2) (c .loop-test .left)
 
-pub print-piece-spec : {M : Type 1} → statement M
-print-piece-spec =
+pub print-runs-spec : {M : Type 1} → statement M
+print-runs-spec =
     tie.close
     (tie.spec
     Inv-loop
