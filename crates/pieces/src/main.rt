@@ -1,5 +1,5 @@
-// The code program on small reads, a test program: 61 bytes at a time, so that nearly every line of what it is fed goes across
-// the end of a read. It prints what the code program prints.
+// The code program on small reads, a test program: it is fed a hard input, 61 bytes at a time, so that lines of every length up
+// to ten are cut by the end of a read, each at every place.
 use libc::STDIN_FILENO;
 use lines::Line;
 

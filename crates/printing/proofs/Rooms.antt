@@ -15,15 +15,17 @@ use Rattle.lines.specs.Promise.{HeaderPromise as PutHeader, AnswerPromise as Pu
 use Rattle.printing.specs.Promise.{HeaderPromise, LastPromise}
 
 -- all of the header
-pub header-all : {room after : List ℕ} {r : ℕ} → PutHeader room r after → 80 ≤ length room → HeaderPromise r
-header-all {room} p h = record { answer = p .answer ∙ ap (λ (x : Bool). pick x 0 (length header)) (le-ltb (length room) 80 h) }
+pub header-all : {room after : List ℕ} {put r : ℕ} → PutHeader room put after → 80 ≤ length room → r ≡ put → HeaderPromise r
+header-all {room} p h g = record { answer = g ∙ p .answer ∙ ap (λ (x : Bool). pick x 0 (length header)) (le-ltb (length room) 80 h) }
 
 -- all of the answer of a line that has any bytes
-pub last-all : {line : Line} {room after : List ℕ} {r : ℕ} → PutAnswer line room r after → 80 ≤ length room → line .begun ≡ true → LastPromise line r
-last-all {line} {room} p h e =
+pub last-all : {line : Line} {room after : List ℕ} {put r : ℕ} → PutAnswer line room put after → 80 ≤ length room → line .begun ≡ true → r ≡ put
+    → LastPromise line r
+last-all {line} {room} p h e g =
     record {
       answer =
-          p .answer
+          g
+          ∙ p .answer
           ∙ ap (λ (x : Bool). pick x 0 (length (answerOf line))) (le-ltb (length room) 80 h)
           ∙ ap (λ (x : Bool). length (pick x (answerOf line) [])) (sym e);
     }

@@ -1,6 +1,6 @@
 // What the code program hands to standard output: the header, the answers of the lines that end in a piece of the input, and
-// the answer of a last line. What `io::write_all` answers is not looked at: where standard output is closed nothing more can
-// be said.
+// the answer of a last line. Each call has a room of its own, so that no lent memory is left open.
+ghost use mathlib.Core.Path.{_≡_};
 ghost use Prim.Native.Nat.{_≤_};
 ghost use lib.ListN.{length};
 ghost use Rattle.printing.specs.Promise.{HeaderPromise, LastPromise, PiecePromise};
@@ -13,8 +13,7 @@ pub fn print_header() -> usize
 {
     let mut room = io::large_buffer();
     let put = lines::put_header(&mut room);
-    io::write_all(STDOUT_FILENO, &room[..put]);
-    put
+    handed(&room, put)
 }
 
 // Prints the answers of the lines that end in a piece of the input, and gives the line that does not.
@@ -32,9 +31,8 @@ pub fn print_last(line: Line) -> usize
     let begun = line.begun;
     if begun {
         let mut room = io::large_buffer();
-        let put = lines::put_answer(line, &mut room);
-        io::write_all(STDOUT_FILENO, &room[..put]);
-        put
+        let said = lines::put_answer(line, &mut room);
+        handed(&room, said)
     } else {
         0
     }
@@ -49,9 +47,19 @@ fn print_runs(line: Line, piece: &[u8], room: &mut [u8]) -> Line
     let mut at = 0;
     while at < piece.len() {
         let ran = lines::run(current, &piece[at..], room);
-        io::write_all(STDOUT_FILENO, &room[..ran.put]);
+        handed(room, ran.put);
         current = ran.line;
         at += ran.used;
     }
     current
+}
+
+// Hands the bytes at the front of a room over; how many they are. What `io::write_all` answers is not looked at: where standard
+// output is closed nothing more can be said.
+fn handed(room: &[u8], count: usize) -> usize
+    requires { ⌜ count ≤ length (now room) ⌝ }
+    ensures { λ r. ⌜ r ≡ count ⌝ }
+{
+    io::write_all(STDOUT_FILENO, &room[..count]);
+    count
 }

@@ -1,9 +1,7 @@
 -- `printing::print_header` meets its contract.
 -- Assumes nothing.
-use mathlib.Core.Path.{sym}
-use lib.Seq.{length-take-le}
-use Rattle.lines.specs.Moving.{header-inside}
 use borrow.Author.Needs.{needs}
+use Rattle.lines.specs.Moving.{header-inside}
 use Rattle.printing.proofs.Rooms.{header-all}
 use Rattle.printing.proofs.print_header.Statement.{statement}
 use Rattle.printing.proofs.print_header.Tie as tie
@@ -17,17 +15,14 @@ slice-aggregate-put-header c = search needs
 put-header-requires : tie.Need-put-header-requires
 put-header-requires c κs = search needs
 
-array-share-prefix-room : tie.Need-array-share-prefix-room
-array-share-prefix-room c = header-inside (c .before .put-header .ensures)
+slice-aggregate-handed : tie.Need-slice-aggregate-handed
+slice-aggregate-handed c = search needs
 
-slice-aggregate-write-all : tie.Need-slice-aggregate-write-all
-slice-aggregate-write-all c = sym (length-take-le _ _ (header-inside (c .before .before .put-header .ensures)))
-
-write-all-requires : tie.Need-write-all-requires
-write-all-requires c κs = search needs
+handed-requires : tie.Need-handed-requires
+handed-requires c κs = let inside = header-inside (c .before .before .put-header .ensures) in search needs
 
 returns : tie.Need-returns
-returns c = header-all (c .before .before .before .put-header .ensures) (search needs)
+returns c = header-all (c .before .before .before .put-header .ensures) (search needs) (c .handed .ensures)
 
 pub print-header-spec : {M : Type 1} → statement M
 print-header-spec =
@@ -36,7 +31,6 @@ print-header-spec =
     large-buffer-requires
     slice-aggregate-put-header
     put-header-requires
-    array-share-prefix-room
-    slice-aggregate-write-all
-    write-all-requires
+    slice-aggregate-handed
+    handed-requires
     returns)

@@ -1,9 +1,7 @@
 -- `printing::print_last` meets its contract.
 -- Assumes nothing.
-use mathlib.Core.Path.{sym}
-use lib.Seq.{length-take-le}
-use Rattle.lines.specs.Moving.{answer-inside}
 use borrow.Author.Needs.{needs}
+use Rattle.lines.specs.Moving.{answer-inside}
 use Rattle.printing.proofs.Rooms.{last-all}
 use Rattle.printing.proofs.print_last.Statement.{statement}
 use Rattle.printing.proofs.print_last.Tie as tie
@@ -17,17 +15,14 @@ slice-aggregate-put-answer c = search needs
 put-answer-requires : tie.Need-put-answer-requires
 put-answer-requires c κs = search needs
 
-array-share-prefix-room : tie.Need-array-share-prefix-room
-array-share-prefix-room c = answer-inside (c .before .put-answer .ensures)
+slice-aggregate-handed : tie.Need-slice-aggregate-handed
+slice-aggregate-handed c = search needs
 
-slice-aggregate-write-all : tie.Need-slice-aggregate-write-all
-slice-aggregate-write-all c = sym (length-take-le _ _ (answer-inside (c .before .before .put-answer .ensures)))
-
-write-all-requires : tie.Need-write-all-requires
-write-all-requires c κs = search needs
+handed-requires : tie.Need-handed-requires
+handed-requires c κs = let inside = answer-inside (c .before .before .put-answer .ensures) in search needs
 
 returns : tie.Need-returns
-returns c = last-all (c .before .before .before .put-answer .ensures) (search needs) (search needs)
+returns c = last-all (c .before .before .before .put-answer .ensures) (search needs) (search needs) (c .handed .ensures)
 
 returns-2 : tie.Need-returns-2
 returns-2 c = search needs
@@ -39,8 +34,7 @@ print-last-spec =
     large-buffer-requires
     slice-aggregate-put-answer
     put-answer-requires
-    array-share-prefix-room
-    slice-aggregate-write-all
-    write-all-requires
+    slice-aggregate-handed
+    handed-requires
     returns
     returns-2)

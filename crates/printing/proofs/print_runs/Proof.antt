@@ -1,12 +1,11 @@
 -- `printing::print_runs` meets its contract. The loop's invariant: what is left comes to the same as the whole piece; each run gets
 -- on, so that the measure is the bytes that are left.
 -- Assumes nothing.
-use mathlib.Core.Path.{_≡_, sym}
+use mathlib.Core.Path.{_≡_}
 use Prim.Native.Nat.{_≤_, _-_}
 use Rattle.printing.proofs.Pieces.{stays, gets-on, comes-to, all-taken}
 use borrow.Author.Needs.{needs}
 use lib.ListN.{length, drop}
-use lib.Seq.{length-take-le}
 use Rattle.lines.specs.Moving.{run-put}
 use Rattle.lines.specs.After.{lineAfter}
 use Rattle.printing.proofs.print_runs.Statement.{statement}
@@ -33,14 +32,8 @@ part-run-end c = search needs
 run-requires : tie.Need-run-requires Inv-loop μ-loop
 run-requires c κs = search needs
 
-slice-reshare-prefix-write-all : tie.Need-slice-reshare-prefix-write-all Inv-loop μ-loop
-slice-reshare-prefix-write-all c = run-put (c .before .before .run .ensures)
-
-slice-aggregate-write-all : tie.Need-slice-aggregate-write-all Inv-loop μ-loop
-slice-aggregate-write-all c = sym (length-take-le _ _ (run-put (c .before .before .before .run .ensures)))
-
-write-all-requires : tie.Need-write-all-requires Inv-loop μ-loop
-write-all-requires c κs = search needs
+handed-requires : tie.Need-handed-requires Inv-loop μ-loop
+handed-requires c κs = run-put (c .before .before .before .run .ensures)
 
 add-at : tie.Need-add-at Inv-loop μ-loop
 add-at c = let inside = stays (c .before .before .before .before .before .before .before .before .before .before .before .before .before .args .piece .now) (c .before .before .before .before .before .before .before .before .before .before .loop .at) (c .before .before .before .before .before .before .run .ensures) (c .before .before .before .before .before .before .before .before .before .loop-test .taken) in search needs
@@ -68,9 +61,7 @@ print-runs-spec =
     part-run-start
     part-run-end
     run-requires
-    slice-reshare-prefix-write-all
-    slice-aggregate-write-all
-    write-all-requires
+    handed-requires
     add-at
     loop-less
     loop-again
