@@ -5,4 +5,5 @@ pub mod Texts
 pub mod Running
 pub mod Promise
 pub mod OneOutcome
+pub mod After
 pub mod Moving

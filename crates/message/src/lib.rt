@@ -9,9 +9,9 @@ use parts::checked_front;
 use parts::data_size;
 use parts::number_at;
 use parts::put_number;
-use parts::put_word;
 use parts::sayable_as;
-use parts::word_at;
+use word::put_word;
+use word::word_at;
 
 // What reading answers: a message with its address, its size tag, its value and the bytes that it used; a wrong mark; a
 // message that is cut short; a wrong checksum.

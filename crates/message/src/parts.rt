@@ -7,6 +7,7 @@ ghost use Rattle.ground.specs.Words.{number, bytesOf, wordAt};
 ghost use Rattle.ground.specs.Putting.{put};
 ghost use Rattle.crc.specs.Meaning.{checksumOf};
 ghost use Rattle.message.specs.Meaning.{dataSize, sayable};
+use word::word_at;
 
 // How many data bytes a size tag stands for.
 pub(crate) fn data_size(tag: u8) -> usize
@@ -45,21 +46,6 @@ pub(crate) fn checked_front(bytes: &[u8], size: usize) -> bool
     crc::checksum(&bytes[..end]) == word_at(bytes, end)
 }
 
-// The 16-bit word at a place.
-pub(crate) fn word_at(bytes: &[u8], at: usize) -> u16
-    requires { ⌜ at + 2 ≤ length (now bytes) ⌝ }
-    ensures { λ r. ⌜ (r ≡ wordAt (now (bytes .entry)) at) × (r < 65536) ⌝ }
-{
-    wide(bytes[at]) * 256 + wide(bytes[at + 1])
-}
-
-// A byte as a word.
-fn wide(x: u8) -> u16
-    ensures { λ r. ⌜ (r ≡ x) × (r < 256) ⌝ }
-{
-    x as u16
-}
-
 // The number that up to eight bytes from a place on mean.
 pub(crate) fn number_at(bytes: &[u8], at: usize, count: usize) -> u64
     requires { ⌜ (at + count ≤ length (now bytes)) × (count ≤ 8) ⌝ }
@@ -79,15 +65,6 @@ fn long(x: u8) -> u64
     ensures { λ r. ⌜ (r ≡ x) × (r < 256) ⌝ }
 {
     x as u64
-}
-
-// Puts a 16-bit word at a place.
-pub(crate) fn put_word(buffer: &mut [u8], at: usize, word: u16)
-    requires { ⌜ at + 2 ≤ length (now buffer) ⌝ }
-    ensures { λ _. ⌜ now (buffer .exit) ≡ put (now (buffer .entry)) at (bytesOf 2 word) ⌝ }
-{
-    buffer[at] = (word / 256) as u8;
-    buffer[at + 1] = (word % 256) as u8;
 }
 
 // Puts the bytes of a value at a place, the last of them first.

@@ -1,15 +1,17 @@
 -- The tests of a packet, one after the other: the first that fails settles that no packet stands.
 -- Assumes nothing.
-use mathlib.Core.Path.{_≡_, refl, sym, _∙_}
-use mathlib.Core.Bool.{Bool, true, false, _&&_}
+use mathlib.Core.Path.{_≡_}
+use mathlib.Core.Bool.{true, false}
 use mathlib.Core.List.{List}
 use Prim.Native.Nat.{ℕ, _+_, _-_, _<_, _≤_}
 use native.Mathlib.Omega.{arith}
-use borrow.Author.Tests.{lt-ltb, le-ltb, le-leb, lt-leb, leb-true, leb-false}
-use lib.Dec.{leb, ltb, eqb}
+use borrow.Author.Tests.{lt-ltb, le-ltb, le-leb, lt-leb, leb-true}
 use lib.ListN.{length}
 use Rattle.ground.specs.Words.{wordAt}
-use Rattle.packet.specs.Meaning.{lies, marked, sized, dataLength, checked, stands}
+use Rattle.word.specs.Meaning.{lies}
+use Rattle.word.specs.Promise.{WordPromise}
+use Rattle.word.specs.Laws.{word-there}
+use Rattle.packet.specs.Meaning.{marked, checked, stands}
 
 module _ (l : List ℕ) (at : ℕ) where
   pub too-near-the-end : lies l at 10 ≡ false → false ≡ stands l at
@@ -20,16 +22,20 @@ module _ (l : List ℕ) (at : ℕ) where
   unfolding stands
   not-marked a e = rw (a, e)
 
-  module _ (w : ℕ) (is : w ≡ wordAt l (at + 4)) where
+  module _ (w : ℕ) (p : WordPromise l (at + 4) w) where
+    -- the length word lies in the capture where ten bytes do
+    is : lies l at 10 ≡ true → w ≡ wordAt l (at + 4)
+    is a = word-there p (omega (arith, leb-true (at + 10) (length l) a))
+
     -- a length word under 4
     pub too-small : lies l at 10 ≡ true → marked l at ≡ true → w < 4 → false ≡ stands l at
     unfolding stands
-    too-small a b h = rw (a, b, ← is, lt-leb 4 w h)
+    too-small a b h = rw (a, b, ← is a, lt-leb 4 w h)
 
     -- a length word with a top bit set
     pub too-large : lies l at 10 ≡ true → marked l at ≡ true → 4 ≤ w → 8192 ≤ w → false ≡ stands l at
     unfolding stands
-    too-large a b g h = rw (a, b, ← is, le-leb 4 w g, le-ltb w 8192 h)
+    too-large a b g h = rw (a, b, ← is a, le-leb 4 w g, le-ltb w 8192 h)
 
     -- the size by the length word, and by n
     size : 4 ≤ w → w + 6 ≡ w - 4 + 10
@@ -38,22 +44,14 @@ module _ (l : List ℕ) (at : ℕ) where
     -- a packet that is cut by the end
     pub not-whole : lies l at 10 ≡ true → marked l at ≡ true → 4 ≤ w → w < 8192 → lies l at (w + 6) ≡ false → false ≡ stands l at
     unfolding stands
-    not-whole a b g h e = rw (a, b, ← is, le-leb 4 w g, lt-ltb w 8192 h, ← size g, e)
+    not-whole a b g h e = rw (a, b, ← is a, le-leb 4 w g, lt-ltb w 8192 h, ← size g, e)
 
     -- where all lies in the capture, the checksum settles it
     pub up-to-checksum : lies l at 10 ≡ true → marked l at ≡ true → 4 ≤ w → w < 8192 → lies l at (w + 6) ≡ true
         → checked l at (w - 4) ≡ stands l at
     unfolding stands
-    up-to-checksum a b g h e = rw (a, b, ← is, le-leb 4 w g, lt-ltb w 8192 h, ← size g, e)
+    up-to-checksum a b g h e = rw (a, b, ← is a, le-leb 4 w g, lt-ltb w 8192 h, ← size g, e)
 
     -- what a checksum is formed over lies in the capture
     pub whole : 4 ≤ w → lies l at (w + 6) ≡ true → at + (w - 4 + 10) ≤ length l
     whole g e = omega (arith, leb-true (at + (w + 6)) (length l) e)
-
--- a size that is held against what is left of a capture, or from its start
-pub leb-shift : (a b n : ℕ) → a ≤ n → leb b (n - a) ≡ leb (a + b) n
-leb-shift a b n h = go (leb b (n - a)) refl
-  where
-    go : (t : Bool) → leb b (n - a) ≡ t → leb b (n - a) ≡ leb (a + b) n
-    go true e = e ∙ sym (le-leb (a + b) n (omega (arith, leb-true b (n - a) e)))
-    go false e = e ∙ sym (lt-leb (a + b) n (omega (arith, leb-false b (n - a) e)))

@@ -13,7 +13,7 @@ use Rattle.ground.specs.Questions.{both-hold}
 use Rattle.ground.specs.Paper.{Paper, accepted, refused, refusedWith}
 use Rattle.ground.specs.Words.{wordAt}
 use Rattle.crc.specs.Meaning.{checksumOf}
-use Rattle.packet.specs.Meaning.{lies, marked, sized, dataLength, checked, stands, failedBefore, findFrom, FoundValues}
+use Rattle.packet.specs.Meaning.{marked, sized, dataLength, checked, stands, failedBefore, findFrom, FoundValues}
 
 -- mark, length and checksum agree at a place
 pub record Standing (l : List ℕ) (at : ℕ) : Type 0 where

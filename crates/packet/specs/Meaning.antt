@@ -9,6 +9,7 @@ use Rattle.ground.specs.Choice.{pick}
 use Rattle.ground.specs.Paper.{Paper, accepted, refused, refusedWith}
 use Rattle.ground.specs.Words.{bytesOf, wordAt}
 use Rattle.crc.specs.Meaning.{checksumOf}
+use Rattle.word.specs.Meaning.{lies}
 
 -- "bytes BE BA CA FE"
 abbrev pub mark : List ℕ
@@ -21,10 +22,6 @@ covered apid payload = mark ++ (bytesOf 2 (length payload + 4) ++ (bytesOf 2 api
 -- ".. checksum": it covers "every byte before it, mark included"
 unfoldable pub packetOf : ℕ → List ℕ → List ℕ
 packetOf apid payload = covered apid payload ++ bytesOf 2 (checksumOf (covered apid payload))
-
--- so many bytes from a place on lie in the capture
-abbrev pub lies : List ℕ → ℕ → ℕ → Bool
-lies capture at size = leb (at + size) (length capture)
 
 -- the mark stands at a place
 abbrev pub marked : List ℕ → ℕ → Bool

@@ -10,9 +10,9 @@ ghost use Rattle.packet.specs.Promise.{FindPromise, HeaderPromise, Paylo
 use parts::copied;
 use parts::data_length;
 use parts::put_header;
-use parts::put_word;
 use parts::stands_at;
-use parts::word_at;
+use word::put_word;
+use word::word_at;
 
 // What finding answers: the first packet's place and the bytes skipped before it; no packet, with the bytes skipped; a
 // capture of more than 65,536 bytes.

@@ -2,12 +2,13 @@
 ghost use mathlib.Core.Path.{_≡_};
 ghost use mathlib.Core.Bool.{true};
 ghost use mathlib.Core.List.{_++_};
-ghost use Prim.Native.Nat.{_+_, _≤_, _<_};
-ghost use lib.ListN.{length, take, drop, getD};
-ghost use Rattle.ground.specs.Words.{bytesOf, wordAt};
-ghost use Rattle.ground.specs.Putting.{put};
+ghost use Prim.Native.Nat.{_+_, _≤_};
+ghost use lib.ListN.{length, drop};
 ghost use Rattle.packet.specs.Putting.{headOf};
-ghost use Rattle.packet.specs.Meaning.{lies, marked, dataLength, checked, stands};
+ghost use Rattle.packet.specs.Meaning.{marked, dataLength, checked, stands};
+use word::lies_in;
+use word::put_word;
+use word::word_at;
 
 // Whether a packet stands at a place.
 pub(crate) fn stands_at(capture: &[u8], place: usize) -> bool
@@ -40,16 +41,6 @@ pub(crate) fn data_length(capture: &[u8], place: usize) -> u16
     word_at(capture, place + 4) - 4
 }
 
-// Whether so many bytes from a place on lie in the capture.
-fn lies_in(capture: &[u8], place: usize, size: usize) -> bool
-    ensures { λ r. ⌜ r ≡ lies (now (capture .entry)) place size ⌝ }
-{
-    if capture.len() < place {
-        return false;
-    }
-    size <= capture.len() - place
-}
-
 // Whether the mark stands at a place.
 fn marked_at(capture: &[u8], place: usize) -> bool
     requires { ⌜ place + 4 ≤ length (now capture) ⌝ }
@@ -76,21 +67,6 @@ fn checked_at(capture: &[u8], place: usize, n: usize) -> bool
     crc::checksum(&capture[place..end]) == word_at(capture, end)
 }
 
-// The 16-bit word at a place.
-pub(crate) fn word_at(bytes: &[u8], at: usize) -> u16
-    requires { ⌜ at + 2 ≤ length (now bytes) ⌝ }
-    ensures { λ r. ⌜ (r ≡ wordAt (now (bytes .entry)) at) × (r < 65536) ⌝ }
-{
-    wide(bytes[at]) * 256 + wide(bytes[at + 1])
-}
-
-// A byte as a word.
-fn wide(x: u8) -> u16
-    ensures { λ r. ⌜ (r ≡ x) × (r < 256) ⌝ }
-{
-    x as u16
-}
-
 // Puts a packet's header at the front: the mark, the length word and the APID.
 pub(crate) fn put_header(buffer: &mut [u8], word: u16, apid: u16)
     requires { ⌜ 8 ≤ length (now buffer) ⌝ }
@@ -100,15 +76,6 @@ pub(crate) fn put_header(buffer: &mut [u8], word: u16, apid: u16)
     put_word(buffer, 2, 0xCAFE);
     put_word(buffer, 4, word);
     put_word(buffer, 6, apid);
-}
-
-// Puts a 16-bit word at a place.
-pub(crate) fn put_word(buffer: &mut [u8], at: usize, word: u16)
-    requires { ⌜ at + 2 ≤ length (now buffer) ⌝ }
-    ensures { λ _. ⌜ now (buffer .exit) ≡ put (now (buffer .entry)) at (bytesOf 2 word) ⌝ }
-{
-    buffer[at] = (word / 256) as u8;
-    buffer[at + 1] = (word % 256) as u8;
 }
 
 // Copies the data over a part of the buffer that is as long.

@@ -8,10 +8,10 @@ use Rattle.codes.proofs.print_lines.Statement.{statement}
 use Rattle.codes.proofs.print_lines.Tie as tie
 
 abbrev Inv-loop : tie.InvT-loop
-Inv-loop input₀ room₀ line₀ turns₀ got₀ input room line turns got = (length input ≡ length input₀) × (length room ≡ length room₀) × (got ≤ length input) × (got ≡ length (take got input))
+Inv-loop input₀ line₀ turns₀ got₀ input line turns got = (length input ≡ length input₀) × (got ≤ length input) × (got ≡ length (take got input))
 
 abbrev μ-loop : tie.MeasureT-loop
-μ-loop input₀ room₀ line₀ turns₀ got₀ input room line turns got = turns
+μ-loop input₀ line₀ turns₀ got₀ input line turns got = turns
 
 fresh-line-requires : tie.Need-fresh-line-requires Inv-loop μ-loop
 fresh-line-requires c κs = search needs
@@ -46,17 +46,11 @@ loop-again c = search needs
 same-length : tie.Need-same-length Inv-loop μ-loop
 same-length c = search needs
 
-same-length-2 : tie.Need-same-length-2 Inv-loop μ-loop
-same-length-2 c = search needs
-
 returns : tie.Need-returns Inv-loop μ-loop
 returns c = search needs
 
-same-length-3 : tie.Need-same-length-3 Inv-loop μ-loop
-same-length-3 c = search needs
-
-same-length-4 : tie.Need-same-length-4 Inv-loop μ-loop
-same-length-4 c = search needs
+same-length-2 : tie.Need-same-length-2 Inv-loop μ-loop
+same-length-2 c = search needs
 
 returns-2 : tie.Need-returns-2 Inv-loop μ-loop
 returns-2 c = search needs
@@ -78,8 +72,6 @@ print-lines-spec =
     loop-less
     loop-again
     same-length
-    same-length-2
     returns
-    same-length-3
-    same-length-4
+    same-length-2
     returns-2)

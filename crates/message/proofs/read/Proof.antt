@@ -6,6 +6,7 @@ use native.Mathlib.Omega.{arith}
 use borrow.Author.Needs.{needs}
 use Rattle.ground.specs.Paper.{accepted}
 use Rattle.ground.specs.Questions.{answered-no, answered-yes}
+use Rattle.word.specs.Laws.{word-there}
 use Rattle.message.specs.Meaning.{dataSize, ReadValues}
 use Rattle.message.specs.Laws.{read-short, read-unmarked, read-cut, read-unsummed, read-so}
 use Rattle.message.proofs.Tags.{unmarked-first, unmarked-second, marked-both}
@@ -40,7 +41,7 @@ add-if4 : tie.Need-add-if4
 add-if4 c = search needs
 
 returns-4 : tie.Need-returns-4
-returns-4 c = record { answer = read-cut (c .before .before .before .before .before .before .before .before .before .args .bytes .now) (c .before .data-size .result) (c .before .data-size .ensures .0 ∙ ap (λ (w : ℕ). dataSize (w / 2 ^ 14)) (c .before .before .word-at .ensures .0)) (search needs) (marked-both (c .before .before .before .before .before .before .before .before .before .args .bytes .now) (c .before .before .before .before .before .if2 .left) (c .before .before .before .if3 .left)) (search needs) }
+returns-4 c = record { answer = read-cut (c .before .before .before .before .before .before .before .before .before .args .bytes .now) (c .before .data-size .result) (c .before .data-size .ensures .0 ∙ ap (λ (w : ℕ). dataSize (w / 2 ^ 14)) (word-there (c .before .before .word-at .ensures) (search needs))) (search needs) (marked-both (c .before .before .before .before .before .before .before .before .before .args .bytes .now) (c .before .before .before .before .before .if2 .left) (c .before .before .before .if3 .left)) (search needs) }
 
 checked-front-requires : tie.Need-checked-front-requires
 checked-front-requires c κs = search needs
@@ -49,7 +50,7 @@ returns-5 : tie.Need-returns-5
 returns-5 c =
     record {
       answer =
-          read-unsummed (c .before .before .before .before .before .before .before .before .before .before .before .args .bytes .now) (c .before .before .before .data-size .result) (c .before .before .before .data-size .ensures .0 ∙ ap (λ (w : ℕ). dataSize (w / 2 ^ 14)) (c .before .before .before .before .word-at .ensures .0)) (search needs) (marked-both (c .before .before .before .before .before .before .before .before .before .before .before .args .bytes .now) (c .before .before .before .before .before .before .before .if2 .left) (c .before .before .before .before .before .if3 .left)) (search needs)
+          read-unsummed (c .before .before .before .before .before .before .before .before .before .before .before .args .bytes .now) (c .before .before .before .data-size .result) (c .before .before .before .data-size .ensures .0 ∙ ap (λ (w : ℕ). dataSize (w / 2 ^ 14)) (word-there (c .before .before .before .before .word-at .ensures) (search needs))) (search needs) (marked-both (c .before .before .before .before .before .before .before .before .before .before .before .args .bytes .now) (c .before .before .before .before .before .before .before .if2 .left) (c .before .before .before .before .before .if3 .left)) (search needs)
           (answered-no (c .before .checked-front .ensures) (c .if5 .taken));
     }
 
@@ -65,8 +66,8 @@ returns-6 c =
     let size = c .before .before .before .before .data-size .result in
     record {
       answer =
-          ap₂ (λ (w v : ℕ). accepted (record { address = w % 16384; tag = w / 16384; value = v; used = size + 6 })) (word .ensures .0) (c .number-at .ensures)
-          ∙ read-so (c .before .before .before .before .before .before .before .before .before .before .before .before .args .bytes .now) (c .before .before .before .before .data-size .result) (c .before .before .before .before .data-size .ensures .0 ∙ ap (λ (w : ℕ). dataSize (w / 2 ^ 14)) (c .before .before .before .before .before .word-at .ensures .0)) (search needs) (marked-both (c .before .before .before .before .before .before .before .before .before .before .before .before .args .bytes .now) (c .before .before .before .before .before .before .before .before .if2 .left) (c .before .before .before .before .before .before .if3 .left)) (search needs)
+          ap₂ (λ (w v : ℕ). accepted (record { address = w % 16384; tag = w / 16384; value = v; used = size + 6 })) (word-there (word .ensures) (search needs)) (c .number-at .ensures)
+          ∙ read-so (c .before .before .before .before .before .before .before .before .before .before .before .before .args .bytes .now) (c .before .before .before .before .data-size .result) (c .before .before .before .before .data-size .ensures .0 ∙ ap (λ (w : ℕ). dataSize (w / 2 ^ 14)) (word-there (c .before .before .before .before .before .word-at .ensures) (search needs))) (search needs) (marked-both (c .before .before .before .before .before .before .before .before .before .before .before .before .args .bytes .now) (c .before .before .before .before .before .before .before .before .if2 .left) (c .before .before .before .before .before .before .if3 .left)) (search needs)
           (answered-yes (c .before .before .checked-front .ensures) (c .before .if5 .left));
     }
 

@@ -4,6 +4,7 @@ use native.Mathlib.Omega.{arith}
 use borrow.Author.Needs.{needs}
 use lib.ListN.{length-take}
 use Rattle.ground.specs.Questions.{answered-no, answered-yes}
+use Rattle.word.specs.Laws.{put-there}
 use Rattle.message.proofs.Writing.{Within, within, Ends, unsayable, too-short, done}
 use Rattle.message.proofs.write.Statement.{statement}
 use Rattle.message.proofs.write.Tie as tie
@@ -67,8 +68,8 @@ returns-3 : tie.Need-returns-3
 returns-3 c =
     let r =
     done (c .before .before .before .before .before .before .before .before .before .before .before .before .before .before .before .before .before .before .before .before .before .before .before .args .buffer .now) (c .before .before .before .before .before .before .before .before .before .before .before .before .before .before .before .before .before .before .before .before .before .before .before .args .address) (c .before .before .before .before .before .before .before .before .before .before .before .before .before .before .before .before .before .before .before .before .before .before .before .args .tag) (c .before .before .before .before .before .before .before .before .before .before .before .before .before .before .before .before .before .before .before .before .before .before .before .args .value) (c .before .before .before .before .before .before .before .before .before .before .before .before .before .before .before .before .before .before .before .data-size .result) (c .before .before .before .before .before .before .before .before .before .before .before .before .before .before .before .before .before .before .before .data-size .ensures .0) (answered-yes (c .before .before .before .before .before .before .before .before .before .before .before .before .before .before .before .before .before .before .before .before .before .sayable-as .ensures) (c .before .before .before .before .before .before .before .before .before .before .before .before .before .before .before .before .before .before .before .before .if1 .left))
-    (c .before .before .before .before .before .before .before .before .before .before .before .before .before .before .before .before .put-word .ensures) (c .before .before .before .before .before .before .before .before .before .before .before .before .put-word2 .ensures) (c .before .before .before .before .before .before .before .before .put-number .ensures)
-    (search needs) (c .before .before .before .before .checksum .ensures .answer) (c .before .before .put-word3 .ensures) in
+    (put-there (c .before .before .before .before .before .before .before .before .before .before .before .before .before .before .before .before .put-word .ensures) (search needs)) (put-there (c .before .before .before .before .before .before .before .before .before .before .before .before .put-word2 .ensures) (search needs)) (c .before .before .before .before .before .before .before .before .put-number .ensures)
+    (search needs) (c .before .before .before .before .checksum .ensures .answer) (put-there (c .before .before .put-word3 .ensures) (search needs)) in
     record { answer = r .answer; memory = r .memory }
 
 pub write-spec : {M : Type 1} → statement M

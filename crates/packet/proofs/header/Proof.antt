@@ -4,6 +4,7 @@ use Prim.Native.Nat.{ℕ}
 use mathlib.Core.Path.{sym, ap₂, _∙_}
 use borrow.Author.Needs.{needs}
 use Rattle.ground.specs.Paper.{accepted}
+use Rattle.word.specs.Laws.{word-there}
 use Rattle.packet.proofs.Finding.{header-long, header-here, header-none}
 use Rattle.packet.proofs.header.Statement.{statement}
 use Rattle.packet.proofs.header.Tie as tie
@@ -27,7 +28,7 @@ returns-2 : tie.Need-returns-2
 returns-2 c =
     record {
       answer =
-          ap₂ (λ (a n : ℕ). accepted (record { apid = a; length = n })) (c .word-at .ensures .0) (c .before .data-length .ensures .0)
+          ap₂ (λ (a n : ℕ). accepted (record { apid = a; length = n })) (word-there (c .word-at .ensures) (search needs)) (c .before .data-length .ensures .0)
           ∙ header-here (c .before .before .before .before .before .before .args .capture .now) (c .before .before .before .before .before .before .args .place) (search needs) (sym (c .before .before .before .stands-at .ensures) ∙ c .before .before .if2 .taken);
     }
 

@@ -3,6 +3,7 @@
 use native.Mathlib.Omega.{arith}
 use borrow.Author.Needs.{needs}
 use lib.ListN.{length-take}
+use Rattle.word.specs.Laws.{put-there}
 use Rattle.packet.proofs.Writing.{TooMuch, too-much, TooShort, too-short, Done, done, summed}
 use Rattle.packet.proofs.write.Statement.{statement}
 use Rattle.packet.proofs.write.Tie as tie
@@ -64,7 +65,7 @@ same-length c = search needs
 
 returns-3 : tie.Need-returns-3
 returns-3 c =
-    let r = done (c .before .before .before .before .before .before .before .before .before .before .before .before .before .before .before .before .before .before .args .buffer .now) (c .before .before .before .before .before .before .before .before .before .before .before .before .before .before .before .before .before .before .args .apid) (c .before .before .before .before .before .before .before .before .before .before .before .before .before .before .before .before .before .before .args .payload .now) (search needs) (search needs) (c .before .before .before .before .before .before .before .before .before .before .before .before .put-header .ensures) (c .before .before .before .before .before .before .before .before .copied .ensures) (c .before .before .before .before .checksum .ensures .answer) (c .before .before .put-word .ensures) in
+    let r = done (c .before .before .before .before .before .before .before .before .before .before .before .before .before .before .before .before .before .before .args .buffer .now) (c .before .before .before .before .before .before .before .before .before .before .before .before .before .before .before .before .before .before .args .apid) (c .before .before .before .before .before .before .before .before .before .before .before .before .before .before .before .before .before .before .args .payload .now) (search needs) (search needs) (c .before .before .before .before .before .before .before .before .before .before .before .before .put-header .ensures) (c .before .before .before .before .before .before .before .before .copied .ensures) (c .before .before .before .before .checksum .ensures .answer) (put-there (c .before .before .put-word .ensures) (search needs)) in
     record { answer = r .answer; memory = r .memory }
 
 pub write-spec : {M : Type 1} → statement M

@@ -5,6 +5,7 @@ use native.Mathlib.Omega.{arith}
 use borrow.Author.Needs.{needs}
 use lib.Dec.{eqb}
 use lib.ListN.{length-take}
+use Rattle.word.specs.Laws.{word-there}
 use Rattle.message.proofs.parts.checked_front.Statement.{statement}
 use Rattle.message.proofs.parts.checked_front.Tie as tie
 
@@ -21,7 +22,7 @@ word-at-requires : tie.Need-word-at-requires
 word-at-requires c κs = search needs
 
 returns : tie.Need-returns
-returns c = ap₂ eqb (c .before .checksum .ensures .answer) (c .word-at .ensures .0)
+returns c = ap₂ eqb (c .before .checksum .ensures .answer) (word-there (c .word-at .ensures) (search needs))
 
 pub checked-front-spec : {M : Type 1} → statement M
 checked-front-spec =

@@ -1,6 +1,7 @@
 -- `packet::put_header` meets its contract: four words, one after the other.
 -- Assumes nothing.
 use borrow.Author.Needs.{needs}
+use Rattle.word.specs.Laws.{put-there}
 use Rattle.packet.specs.Putting.{head-put}
 use Rattle.packet.proofs.parts.put_header.Statement.{statement}
 use Rattle.packet.proofs.parts.put_header.Tie as tie
@@ -23,7 +24,7 @@ same-length c = search needs
 returns : tie.Need-returns
 returns c =
     let a = c .before .before .before .before .before .before .before .before .before .before .before .before .before .before .before .before .before .args in
-    head-put (a .buffer .now) (a .word) (a .apid) (c .before .before .before .before .before .before .before .before .before .before .before .before .before .before .put-word .ensures) (c .before .before .before .before .before .before .before .before .before .before .put-word2 .ensures) (c .before .before .before .before .before .before .put-word3 .ensures) (c .before .before .put-word4 .ensures)
+    head-put (a .buffer .now) (a .word) (a .apid) (put-there (c .before .before .before .before .before .before .before .before .before .before .before .before .before .before .put-word .ensures) (search needs)) (put-there (c .before .before .before .before .before .before .before .before .before .before .put-word2 .ensures) (search needs)) (put-there (c .before .before .before .before .before .before .put-word3 .ensures) (search needs)) (put-there (c .before .before .put-word4 .ensures) (search needs))
 
 pub put-header-spec : {M : Type 1} → statement M
 put-header-spec =
