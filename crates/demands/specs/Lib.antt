@@ -2,4 +2,5 @@ pub mod StarredCases
 pub mod ReadBack
 pub mod SameBits
 pub mod Ledger
+pub mod Exported
 pub mod OneOutcome

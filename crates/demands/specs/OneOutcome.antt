@@ -4,6 +4,8 @@
 
 -- the checksum
 pub use Rattle.crc.specs.OneOutcome.{checksum-one}
+-- 16-bit words
+pub use Rattle.word.specs.OneOutcome.{lies-one, word-one, put-one}
 -- packets
 pub use Rattle.packet.specs.OneOutcome.{find-one, header-one, payload-one, write-one as packet-write-one, found-number-one, headed-number-one, written-number-one as packet-written-number-one}
 -- messages
@@ -23,3 +25,15 @@ pub use Rattle.rate.specs.OneOutcome.{reading-one, rate-one, counted-number-one
 pub use Rattle.histogram.specs.OneOutcome.{open-one, increment-one, flip-one, ask-one, open-number-one, increment-number-one, flip-number-one, ask-number-one}
 -- the code program's lines
 pub use Rattle.lines.specs.OneOutcome.{fresh-one, taken-one, header-one as lines-header-one, put-answer-one, run-one}
+-- what the code program prints with
+pub use Rattle.printing.specs.OneOutcome.{header-one as printing-header-one, piece-one, last-one}
+-- a state as words
+pub use Rattle.stored.specs.OneOutcome.{restore-one, store-one, restore-number-one}
+-- the C interface: packets and messages
+pub use Rattle.plavotesk.specs.OneOutcome.{packet-find-one as plv-packet-find-one, packet-header-one as plv-packet-header-one, packet-payload-one as plv-packet-payload-one, packet-write-one as plv-packet-write-one, message-read-one as plv-message-read-one, message-write-one as plv-message-write-one}
+-- the C interface: codes, readings and rates
+pub use Rattle.plavotesk.specs.OneOutcome.{code-pack-one as plv-code-pack-one, code-unpack-one as plv-code-unpack-one, reading-one as plv-reading-one, rate-one as plv-rate-one}
+-- the C interface: formats and cadence; the checksum and the counts of floats have the promises above
+pub use Rattle.plavotesk.specs.OneOutcome.{float16-code-one as plv-float16-code-one, float8-code-one as plv-float8-code-one, int24-code-one as plv-int24-code-one, int24-count-one as plv-int24-count-one, level-seconds-one as plv-level-seconds-one, second-beginning-one as plv-second-beginning-one, second-ending-one as plv-second-ending-one}
+-- the C interface: histogram memory
+pub use Rattle.plavotesk.specs.HistogramOneOutcome.{open-one as plv-histogram-open-one, increment-one as plv-histogram-increment-one, flip-one as plv-histogram-flip-one, ask-one as plv-histogram-ask-one}
