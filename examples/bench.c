@@ -67,7 +67,9 @@ int main(void) {
     }
     counted += feed(&board, COUNTERS);
     printf("%d particles fed, %llu counted\n", PARTICLES + 1, (unsigned long long)counted);
-    plv_histogram_flip(board.memory, 2 * COUNTERS, board.state, PLV_STATE_WORDS);
+    if (plv_histogram_flip(board.memory, 2 * COUNTERS, board.state, PLV_STATE_WORDS) != PLV_ACCEPTED) {
+        return 1;
+    }
     for (int i = 0; i < WINDOWS; i++) {
         sheet[i] = ask(&board, (uint16_t)(i + 1), (uint32_t)(16 * i));
         filed += sheet[i];

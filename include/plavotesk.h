@@ -1,8 +1,11 @@
 /* Plavotesk for C: the proved calls on packets, messages, packed codes, count formats, cadence and histogram memory.
  *
- * Every call takes all inputs and answers a refusal number, 0 where it is accepted. On a refusal it writes nothing, but for
- * the bytes skipped with PLV_NO_PACKET. A slice is a pointer and a length; the pointer is never null, not even where the
- * length is 0. Places that a call writes to do not overlap each other or what it reads. */
+ * Every call takes all inputs. Those that answer uint8_t answer a refusal number, 0 where they are accepted; the others refuse
+ * nothing. On a refusal nothing is written, but for the bytes skipped with PLV_NO_PACKET. After each call's explanation stand
+ * its refusals, in the order in which they are looked for.
+ *
+ * A slice is a pointer and a length, which counts elements, not bytes; the pointer is never null, not even where the length is
+ * 0. Places that a call writes to do not overlap each other or what it reads. */
 #ifndef PLAVOTESK_H
 #define PLAVOTESK_H
 
@@ -13,7 +16,7 @@
 extern "C" {
 #endif
 
-/* The refusal numbers: each is given exactly when its line says. */
+/* The refusal numbers: each is given exactly when its line says, by the calls that name it. */
 enum plv_refusal {
     PLV_ACCEPTED = 0,
     PLV_CAPTURE_TOO_LONG = 1,    /* capture over 65,536 bytes */
@@ -28,13 +31,13 @@ enum plv_refusal {
     PLV_REDUNDANT_ZERO = 10,     /* redundant zero */
     PLV_RUN_TOO_LONG = 11,       /* run of ones too long */
     PLV_COUNT_TOO_LARGE = 12,    /* count too large for the format */
-    PLV_WRONG_MEMORY = 13,       /* memory length odd, outside 2 to 524,288, or not the state's 2N; or words that no state has */
+    PLV_WRONG_MEMORY = 13,       /* memory length odd, outside 2 to 524,288, or not the state's 2N; state words too few, or no state's */
     PLV_WRONG_ADDRESS = 14,      /* address, or a window's last cell, not under N */
     PLV_COUNTER_FULL = 15,       /* counter full */
     PLV_WORD_ABOVE_FULL = 16,    /* a visited word above 67,108,863 */
     PLV_ASK_OUT_OF_TURN = 17,    /* ask number neither last nor next */
     PLV_OTHER_WINDOW = 18,       /* last number, other window */
-    PLV_WRONG_SECOND = 19,       /* second or level out of range */
+    PLV_OUT_OF_RANGE = 19,       /* second or level out of range */
     PLV_NO_PACKET = 20           /* no packet */
 };
 
@@ -57,25 +60,29 @@ void plv_packet_payload(const uint8_t *capture, size_t capture_length, uint64_t 
 uint8_t plv_packet_write(uint8_t *buffer, size_t buffer_length, uint16_t apid, const uint8_t *payload, size_t payload_length,
                          uint64_t *written);
 
-/* Reads the message at the front of the bytes, and answers the bytes it used; 5, 4, 6. */
+/* Reads the message at the front of the bytes, and answers the bytes it used; under 4 bytes 5, then 4, 5, 6. */
 uint8_t plv_message_read(const uint8_t *bytes, size_t bytes_length, uint16_t *address, uint8_t *tag, uint64_t *value,
                          uint64_t *used);
 
-/* Writes a message to the front of a buffer, and answers its bytes; 7, 3. */
+/* Writes a message to the front of a buffer, and answers its bytes: an address of 14 bits, and a value of 0, 2, 4 or 8 bytes for
+ * tag 0, 1, 2, 3; 7, 3. */
 uint8_t plv_message_write(uint8_t *buffer, size_t buffer_length, uint16_t address, uint8_t tag, uint64_t value,
                           uint64_t *written);
 
-/* Packs a number at a bit position, and answers the next position; 8, 3. */
+/* Packs a number of at most 33,554,431 either way at a bit position, with drop 0 or 3, and answers the next position. Bits go
+ * most significant first; 8, 3. */
 uint8_t plv_code_pack(uint8_t *buffer, size_t buffer_length, uint64_t at, int32_t value, uint8_t drop, uint64_t *next);
 
 /* Reads the code at a bit position, and answers its number and the next position; 8, 9, 10, 11. */
 uint8_t plv_code_unpack(const uint8_t *bytes, size_t bytes_length, uint64_t at, uint8_t drop, int32_t *value, uint64_t *next);
 
-/* Reads the count at a bit position: the band's edges, and whether it is exact; 8, 9, 10, 11. */
+/* Reads the count at a bit position: the edges of its band, and 1 where it is exact (both edges are the count), else 0; 8, 9, 10,
+ * 11, and 8 for a negative number. */
 uint8_t plv_reading(const uint8_t *bytes, size_t bytes_length, uint64_t at, uint8_t drop, double *low, double *high,
                     uint8_t *exact, uint64_t *next);
 
-/* Reads the count at a bit position as a rate over the seconds of a level; as for a reading, then 19. */
+/* Reads the count at a bit position as a rate over the seconds of a level: both edges, each divided once; as for a reading, then
+ * 19. */
 uint8_t plv_rate(const uint8_t *bytes, size_t bytes_length, uint64_t at, uint8_t drop, uint8_t level, double *low,
                  double *high, double *seconds, uint64_t *next);
 
@@ -91,10 +98,10 @@ uint64_t plv_float8_count(uint8_t code);
 uint8_t plv_int24_code(uint64_t count, uint32_t *code);
 uint8_t plv_int24_count(uint32_t code, uint32_t *count);
 
-/* The seconds that a level lasts; 19. */
+/* The seconds that a level, 0 to 7, lasts; 19. */
 uint8_t plv_level_seconds(uint8_t level, uint16_t *seconds);
 
-/* The level that begins, and the level that ends, in a second of the hour; 19. */
+/* The level that begins, and the level that ends, in a second of the hour, 0 to 3599; 19. */
 uint8_t plv_second_beginning(uint16_t second, uint8_t *level);
 uint8_t plv_second_ending(uint16_t second, uint8_t *level);
 
@@ -108,8 +115,10 @@ uint8_t plv_histogram_increment(uint32_t *memory, size_t memory_length, const ui
 /* Exchanges the active page and the idle one; 13. */
 uint8_t plv_histogram_flip(const uint32_t *memory, size_t memory_length, uint64_t *state, size_t state_length);
 
-/* Sums a window of the idle page, once for each number: the last number with its window answers the same sum, with again 1,
- * and changes nothing. clear is 0 to keep the counts; any other number clears them. 13, then 18 or 17, 14, 16. */
+/* Sums a window of the idle page, once for each number. The first number is 1, each next one more, and 0 follows 65535; the last
+ * number with its window answers the same sum, with again 1, and changes nothing. Row r, column c of the window, from 0 to ysize
+ * and xsize inclusive, is at address + r * (xsize + ystride) + c. clear is 0 to keep the counts; any other number clears them; 13,
+ * then 18 or 17, 14, 16. */
 uint8_t plv_histogram_ask(uint32_t *memory, size_t memory_length, uint64_t *state, size_t state_length, uint16_t number,
                           uint32_t address, uint8_t xsize, uint8_t ysize, uint16_t ystride, uint8_t clear, uint64_t *sum,
                           uint8_t *again);

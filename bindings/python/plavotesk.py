@@ -116,17 +116,19 @@ def _fits(number, bits, signed=False):
 
 def _lent(given):
     """Bytes to read, as a pointer and a length: never null."""
-    return (_u8 * max(len(given), 1)).from_buffer_copy(bytes(given) or b'\0'), len(given)
+    whole = bytes(memoryview(given).cast('B'))
+    return (_u8 * max(len(whole), 1)).from_buffer_copy(whole or b'\0'), len(whole)
 
 
 def _into(buffer):
-    """A bytearray (or another writable buffer of bytes) to write into, as a pointer and a length."""
-    if len(buffer) == 0:
+    """A bytearray (or another writable buffer) to write into, as a pointer and a length in bytes."""
+    length = memoryview(buffer).nbytes
+    if length == 0:
         return (_u8 * 1)(), 0
-    return (_u8 * len(buffer)).from_buffer(buffer), len(buffer)
+    return (_u8 * length).from_buffer(buffer), length
 
 
-def _asked(number):
+def _accepted(number):
     """Raises the refusal, where the number is one."""
     if number != 0:
         raise Refusal(number)
@@ -135,7 +137,7 @@ def _asked(number):
 def _one(call, kind, *given):
     """The one value that a call writes."""
     value = kind()
-    _asked(call(*given, value))
+    _accepted(call(*given, value))
     return value.value
 
 
@@ -150,14 +152,14 @@ def find(capture):
     number = _loaded.plv_packet_find(*_lent(capture), place, skipped)
     if number == 20:
         raise Refusal(20, skipped.value)
-    _asked(number)
+    _accepted(number)
     return Found(place.value, skipped.value)
 
 
 def header(capture, place):
     """The APID and the bytes of data of the packet at a place."""
     apid, length = _u16(), _u16()
-    _asked(_loaded.plv_packet_header(*_lent(capture), _fits(place, 64), apid, length))
+    _accepted(_loaded.plv_packet_header(*_lent(capture), _fits(place, 64), apid, length))
     return Header(apid.value, length.value)
 
 
@@ -165,7 +167,7 @@ def payload(capture, place):
     """The data of the packet at a place, as a memoryview into the capture; empty where no packet stands."""
     start, length = _u64(), _u64()
     _loaded.plv_packet_payload(*_lent(capture), _fits(place, 64), start, length)
-    return memoryview(capture)[start.value:start.value + length.value]
+    return memoryview(capture).cast('B')[start.value:start.value + length.value]
 
 
 def write_packet(buffer, apid, data):
@@ -176,7 +178,7 @@ def write_packet(buffer, apid, data):
 def read_message(given):
     """The message at the front of the bytes, and the bytes it used."""
     address, tag, value, used = _u16(), _u8(), _u64(), _u64()
-    _asked(_loaded.plv_message_read(*_lent(given), address, tag, value, used))
+    _accepted(_loaded.plv_message_read(*_lent(given), address, tag, value, used))
     return Message(address.value, tag.value, value.value), used.value
 
 
@@ -194,14 +196,14 @@ def pack(buffer, at, value, drop):
 def unpack(given, at, drop):
     """The number of the code at a bit position, and the next position."""
     value, position = _i32(), _u64()
-    _asked(_loaded.plv_code_unpack(*_lent(given), _fits(at, 64), _fits(drop, 8), value, position))
+    _accepted(_loaded.plv_code_unpack(*_lent(given), _fits(at, 64), _fits(drop, 8), value, position))
     return value.value, position.value
 
 
 def reading(given, at, drop):
     """The count at a bit position, as the edges of its band and whether it is exact; and the next position."""
     low, high, exact, position = _f64(), _f64(), _u8(), _u64()
-    _asked(_loaded.plv_reading(*_lent(given), _fits(at, 64), _fits(drop, 8), low, high, exact, position))
+    _accepted(_loaded.plv_reading(*_lent(given), _fits(at, 64), _fits(drop, 8), low, high, exact, position))
     return Reading(low.value, high.value, exact.value == 1), position.value
 
 
@@ -209,7 +211,7 @@ def rate(given, at, drop, level):
     """The count at a bit position as a rate over the seconds of a level, and the next position."""
     low, high, seconds, position = _f64(), _f64(), _f64(), _u64()
     given = [*_lent(given), _fits(at, 64), _fits(drop, 8), _fits(level, 8)]
-    _asked(_loaded.plv_rate(*given, low, high, seconds, position))
+    _accepted(_loaded.plv_rate(*given, low, high, seconds, position))
     return Rate(low.value, high.value, seconds.value), position.value
 
 
@@ -268,7 +270,7 @@ class Histogram:
         self._memory = (_u32 * (2 * counters))()
         self._state = (_u64 * STATE_WORDS)()
         self._last = None
-        _asked(_loaded.plv_histogram_open(*self._lent()))
+        _accepted(_loaded.plv_histogram_open(*self._lent()))
 
     def _lent(self):
         """Memory and state, as two slices."""
@@ -276,11 +278,11 @@ class Histogram:
 
     def increment(self, address):
         """Adds 1 to a counter of the active page."""
-        _asked(_loaded.plv_histogram_increment(*self._lent(), _fits(address, 32)))
+        _accepted(_loaded.plv_histogram_increment(*self._lent(), _fits(address, 32)))
 
     def flip(self):
         """Exchanges the active page and the idle one."""
-        _asked(_loaded.plv_histogram_flip(*self._lent()))
+        _accepted(_loaded.plv_histogram_flip(*self._lent()))
 
     @property
     def next_number(self):
@@ -300,10 +302,11 @@ class Histogram:
 
     def ask_numbered(self, number, window):
         """An ask under a number of the caller's: 17 or 18 where it is not its turn."""
+        window = Window(*window)
         address, xsize, ysize, ystride, clear = window
         total, again = _u64(), _u8()
         cells = [_fits(address, 32), _fits(xsize, 8), _fits(ysize, 8), _fits(ystride, 16), 1 if clear else 0]
-        _asked(_loaded.plv_histogram_ask(*self._lent(), _fits(number, 16), *cells, total, again))
+        _accepted(_loaded.plv_histogram_ask(*self._lent(), _fits(number, 16), *cells, total, again))
         self._last = number, window
         return Sum(total.value, again.value == 1)
 

@@ -1,4 +1,6 @@
 """Every call of the Python binding on document 01's cases and on refusals, a line each; the Rust binding prints the same."""
+import array
+
 import plavotesk
 from plavotesk import Message, Refusal, Window
 
@@ -117,8 +119,20 @@ def histogram():
     print(f'memory: {board.memory}')
 
 
+def cut():
+    """Numbers that do not fit are refused before they would be cut; other kinds of buffers are taken by their bytes."""
+    for call in (lambda: plavotesk.float16_count(1 << 16), lambda: plavotesk.unpack(b'', -1, 0), lambda: plavotesk.pack(bytearray(4), 0, 1 << 31, 0)):
+        try:
+            call()
+        except OverflowError:
+            continue
+        raise AssertionError('a number was cut')
+    assert plavotesk.checksum(array.array('H', [1, 2, 3])) == plavotesk.checksum(array.array('H', [1, 2, 3]).tobytes())
+
+
 packets()
 messages()
 codes()
 counts()
 histogram()
+cut()

@@ -25,7 +25,7 @@ fn position(random: &mut Random) -> u64 {
 fn unpack(tally: &mut Tally, bytes: &[u8], at: u64, drop: u8, held: u64) {
     let (mut value, mut next) = (held as i32, held);
     let number = unsafe { raw::plv_code_unpack(bytes.as_ptr(), bytes.len(), at, drop, &mut value, &mut next) };
-    tally.answered(number);
+    tally.answered("unpack", number);
     let plain = match code::read(bytes, at, drop) {
         Ok(r) => (0, if r.negative { -(r.magnitude as i32) } else { r.magnitude as i32 }, at + r.taken),
         Err(number) => (number, held as i32, held),
@@ -38,7 +38,7 @@ fn reading(tally: &mut Tally, bytes: &[u8], at: u64, drop: u8, held: u64) {
     let number = unsafe {
         raw::plv_reading(bytes.as_ptr(), bytes.len(), at, drop, &mut low, &mut high, &mut exact, &mut next)
     };
-    tally.answered(number);
+    tally.answered("reading", number);
     let plain = match code::edges(bytes, at, drop) {
         Ok((low, high, exact, next)) => (0, (low as f64).to_bits(), (high as f64).to_bits(), exact as u8, next),
         Err(number) => (number, (held as f64).to_bits(), 0.5f64.to_bits(), held as u8, held),
@@ -52,7 +52,7 @@ fn rate(tally: &mut Tally, bytes: &[u8], at: u64, drop: u8, level: u8, held: u64
     let number = unsafe {
         raw::plv_rate(bytes.as_ptr(), bytes.len(), at, drop, level, &mut low, &mut high, &mut seconds, &mut next)
     };
-    tally.answered(number);
+    tally.answered("rate", number);
     let answer = code::edges(bytes, at, drop).and_then(|edges| cadence::seconds(level).map(|s| (edges, s as f64)));
     let plain = match answer {
         Ok(((low, high, _, next), s)) => (0, (low as f64 / s).to_bits(), (high as f64 / s).to_bits(), s.to_bits(), next),
@@ -62,16 +62,25 @@ fn rate(tally: &mut Tally, bytes: &[u8], at: u64, drop: u8, level: u8, held: u64
     tally.compare(|| format!("rate of {bytes:02x?} at {at}, drop {drop}, level {level}"), proved, plain);
 }
 
-/// A number packed, and what was packed read in all three ways.
+/// A number of any size; now and then one beside a power of two, where codes change and the range ends.
+fn number(random: &mut Random) -> i32 {
+    if random.below(6) > 0 {
+        return random.next() as i32 >> random.below(32);
+    }
+    let beside = (1i64 << random.below(32)) + random.below(3) as i64 - 1;
+    if random.below(2) == 0 { beside as i32 } else { -beside as i32 }
+}
+
+/// A number packed, and what was packed read again.
 fn pack(tally: &mut Tally, random: &mut Random) {
-    let value = random.next() as i32 >> random.below(32);
+    let value = number(random);
     let (at, drop, held) = (position(random), drop(random), random.next());
     let mut proved = Lent::new(&some(random, 9), random.next() as u8);
     let mut plain = proved.clone();
     let mut next = held;
     let buffer = proved.part();
     let number = unsafe { raw::plv_code_pack(buffer.as_mut_ptr(), buffer.len(), at, value, drop, &mut next) };
-    tally.answered(number);
+    tally.answered("pack", number);
     let answer = match code::pack(plain.part(), at, value, drop) {
         Ok(next) => (0, next),
         Err(number) => (number, held),

@@ -5,8 +5,8 @@ use crate::{cadence, format, raw, Tally};
 use std::fmt::Debug;
 
 /// What a call with one value left, against the second program's answer: the number, and the value or what the place held.
-fn one<T: PartialEq + Debug>(tally: &mut Tally, name: &str, given: u64, proved: (u8, T), plain: Result<T, u8>, held: T) {
-    tally.answered(proved.0);
+fn one<T: PartialEq + Debug>(tally: &mut Tally, name: &'static str, given: u64, proved: (u8, T), plain: Result<T, u8>, held: T) {
+    tally.answered(name, proved.0);
     let plain = match plain {
         Ok(value) => (0, value),
         Err(number) => (number, held),
@@ -53,6 +53,9 @@ pub fn drive(random: &mut Random, cases: u64, tally: &mut Tally) {
         let value = format::value(n as u64, 12);
         count(tally, value, random.next());
         count(tally, value.wrapping_sub(1), random.next());
+    }
+    for beside in (0..64).flat_map(|bit| [(1u64 << bit) - 1, 1 << bit, (1 << bit) + 1]) {
+        count(tally, beside, random.next());
     }
     for _ in 0..cases {
         count(tally, random.next() >> random.below(64), random.next());

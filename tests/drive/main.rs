@@ -1,8 +1,8 @@
-//! The exported calls and the second program, side by side: each case is given to both, and every answer, every byte of lent
-//! memory and its margins, and every lent place is compared.
+//! The exported calls and the second program, side by side: each case is given to both, and every answer, every lent place and
+//! every byte of memory that a call may write, with margins, is compared.
 //!
-//!   drive SEED FAMILY CASES     prints how many comparisons agreed, which numbers were answered, and the first cases that
-//!                               differ; exit status 1 where any does
+//!   drive SEED FAMILY CASES     prints how many comparisons agreed, which numbers each call answered, and the first cases
+//!                               that differ; exit status 1 where any does
 
 #[path = "../reference/cadence.rs"]
 #[allow(dead_code)]
@@ -39,21 +39,29 @@ mod scripts;
 mod stored;
 
 use random::Random;
-use std::collections::BTreeSet;
+use std::collections::{BTreeMap, BTreeSet};
 use std::fmt::Debug;
 
-/// On how many cases the two agreed, on how many they did not, and which numbers the exported calls answered.
+/// On how many cases the two agreed, on how many they did not, and which numbers each exported call answered.
 #[derive(Default)]
 pub struct Tally {
     agreed: u64,
     differed: u64,
-    numbers: BTreeSet<u8>,
+    numbers: BTreeMap<&'static str, BTreeSet<u8>>,
 }
 
 impl Tally {
     /// A number that an exported call answered.
-    pub fn answered(&mut self, number: u8) {
-        self.numbers.insert(number);
+    pub fn answered(&mut self, call: &'static str, number: u8) {
+        self.numbers.entry(call).or_default().insert(number);
+    }
+
+    /// The calls and the numbers that each answered.
+    fn met(&self) -> String {
+        let one = |(call, numbers): (&&str, &BTreeSet<u8>)| {
+            numbers.iter().fold(call.to_string(), |line, number| format!("{line} {number}"))
+        };
+        self.numbers.iter().map(one).collect::<Vec<_>>().join(", ")
     }
 
     /// One comparison: what the exported call left, and what the second program says it must leave.
@@ -93,7 +101,7 @@ fn main() {
         "scripts" => scripts::drive(&mut random, cases, &mut tally),
         _ => panic!("no family is called {family}"),
     }
-    let Tally { agreed, differed, numbers } = &tally;
-    println!("{family}, seed {seed}: {agreed} comparisons agreed, {differed} differed; numbers answered: {numbers:?}");
+    let Tally { agreed, differed, .. } = &tally;
+    println!("{family}, seed {seed}: {agreed} comparisons agreed, {differed} differed; answered: {}", tally.met());
     std::process::exit(if tally.differed == 0 { 0 } else { 1 });
 }

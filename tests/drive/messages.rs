@@ -4,9 +4,12 @@ use crate::lent::Lent;
 use crate::random::Random;
 use crate::{checksum, message, raw, some, Tally};
 
-/// Some number, small ones as often as large ones.
+/// Some number, small ones as often as large ones, and those beside the ends of each size.
 fn number(random: &mut Random) -> u64 {
-    random.next() >> random.below(64)
+    match random.below(8) {
+        0 => (1u64 << (16 << random.below(2))) - random.below(2),
+        _ => random.next() >> random.below(64),
+    }
 }
 
 /// Bytes that may begin with a message.
@@ -44,7 +47,7 @@ fn read(tally: &mut Tally, random: &mut Random) {
     let number = unsafe {
         raw::plv_message_read(bytes.as_ptr(), bytes.len(), &mut address, &mut tag, &mut value, &mut used)
     };
-    tally.answered(number);
+    tally.answered("read", number);
     let plain = match message::read(&bytes) {
         Ok((address, tag, value, used)) => (0, address, tag, value, used as u64),
         Err(number) => (number, held as u16, held as u8, held, !held),
@@ -54,7 +57,7 @@ fn read(tally: &mut Tally, random: &mut Random) {
 
 fn write(tally: &mut Tally, random: &mut Random) {
     let address = random.next() as u16 >> (2 - random.below(20) / 19 * 2);
-    let tag = random.below(4) as u8 + random.below(40) as u8 / 39 * 77;
+    let tag = if random.below(40) == 0 { random.next() as u8 >> random.below(6) } else { random.below(4) as u8 };
     let (value, held) = (number(random), random.next());
     let mut proved = Lent::new(&some(random, 20), random.next() as u8);
     let mut plain = proved.clone();
@@ -63,7 +66,7 @@ fn write(tally: &mut Tally, random: &mut Random) {
     let number = unsafe {
         raw::plv_message_write(buffer.as_mut_ptr(), buffer.len(), address, tag, value, &mut written)
     };
-    tally.answered(number);
+    tally.answered("write", number);
     let answer = match message::write(plain.part(), address, tag, value) {
         Ok(written) => (0, written as u64),
         Err(number) => (number, held),

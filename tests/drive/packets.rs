@@ -18,10 +18,16 @@ fn piece(random: &mut Random, depth: u32) -> Vec<u8> {
         0 => return random.bytes(size as usize),
         1 => return MARK.repeat(1 + random.below(6) as usize),
         2 => {
-            // a mark, any length word and a right checksum of what lies there
+            // a mark, a length word that may be right but for its top bits, and a right checksum of what lies there
             let mut forged = MARK.to_vec();
-            forged.extend((random.next() as u16 >> random.below(16)).to_be_bytes());
-            forged.extend(some(random, 20));
+            let rest = some(random, 20);
+            let length = match random.below(3) {
+                0 => random.next() as u16 >> random.below(16),
+                1 => rest.len() as u16 + 2,
+                _ => (rest.len() as u16 + 2) | (1 << (13 + random.below(3))),
+            };
+            forged.extend(length.to_be_bytes());
+            forged.extend(rest);
             let sum = checksum::of(&forged);
             forged.extend(sum.to_be_bytes());
             return forged;
@@ -57,7 +63,7 @@ fn capture(random: &mut Random, depth: u32) -> Vec<u8> {
 fn find(tally: &mut Tally, capture: &[u8], held: u64) {
     let (mut place, mut skipped) = (held, held + 1);
     let number = unsafe { raw::plv_packet_find(capture.as_ptr(), capture.len(), &mut place, &mut skipped) };
-    tally.answered(number);
+    tally.answered("find", number);
     let plain = match packet::find(capture) {
         Answer::Accepted((place, skipped)) => (0, place as u64, skipped as u64),
         Answer::Refused(number) => (number, held, held + 1),
@@ -69,7 +75,7 @@ fn find(tally: &mut Tally, capture: &[u8], held: u64) {
 fn header(tally: &mut Tally, capture: &[u8], at: u64, held: u16) {
     let (mut apid, mut length) = (held, !held);
     let number = unsafe { raw::plv_packet_header(capture.as_ptr(), capture.len(), at, &mut apid, &mut length) };
-    tally.answered(number);
+    tally.answered("header", number);
     let plain = match packet::header(capture, at as usize) {
         Answer::Accepted((apid, n)) => (0, apid, n as u16),
         Answer::Refused(number) | Answer::RefusedWith(number, _) => (number, held, !held),
@@ -82,6 +88,7 @@ fn header(tally: &mut Tally, capture: &[u8], at: u64, held: u16) {
         0 => (0, 0),
         n => (part.as_ptr() as u64 - capture.as_ptr() as u64, n as u64),
     };
+    tally.answered(if size > 0 { "payload of some bytes" } else { "payload of none" }, 0);
     tally.compare(|| format!("payload at {at} of {capture:02x?}"), (start, size), plain);
 }
 
@@ -100,7 +107,7 @@ fn write(tally: &mut Tally, random: &mut Random) {
     let number = unsafe {
         raw::plv_packet_write(buffer.as_mut_ptr(), buffer.len(), apid, data.as_ptr(), data.len(), &mut written)
     };
-    tally.answered(number);
+    tally.answered("write", number);
     let answer = match packet::write(plain.part(), apid, &data) {
         Answer::Accepted(written) => (0, written as u64),
         Answer::Refused(number) | Answer::RefusedWith(number, _) => (number, held),

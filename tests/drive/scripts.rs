@@ -15,9 +15,6 @@ struct Board {
     state: Lent<u64>,
 }
 
-/// What a call answered: its number, and the lent places of an ask.
-type Answer = (u8, u64, u8);
-
 fn open(board: &mut Board) -> u8 {
     let (memory, state) = (board.memory.part(), board.state.part());
     unsafe { raw::plv_histogram_open(memory.as_mut_ptr(), memory.len(), state.as_mut_ptr(), state.len()) }
@@ -52,7 +49,8 @@ fn flip_plain(board: &mut Board) -> Result<(), u8> {
     Ok(())
 }
 
-fn ask(board: &mut Board, number: u16, w: &Window, clear: u8, held: u64) -> Answer {
+/// An ask's number, and the two lent places, which held something before.
+fn ask(board: &mut Board, number: u16, w: &Window, clear: u8, held: u64) -> (u8, u64, u8) {
     let (mut sum, mut again) = (held, held as u8);
     let (memory, state) = (board.memory.part(), board.state.part());
     let refused = unsafe {
@@ -128,77 +126,110 @@ fn forge(random: &mut Random, board: &mut Board) {
     }
 }
 
+/// One memory in the hands of both programs, and the ask that was accepted last.
+struct Script {
+    proved: Board,
+    plain: Board,
+    words: u64,
+    last: (u16, Window),
+    next: u16,
+}
+
+impl Script {
+    /// A memory of so many words and a state of so many, both holding anything, opened by both.
+    fn open(tally: &mut Tally, random: &mut Random, words: u64, room: u64) -> Script {
+        let memory: Vec<u32> = (0..words).map(|_| random.next() as u32).collect();
+        let state: Vec<u64> = (0..room).map(|_| random.next()).collect();
+        let mut proved = Board { memory: Lent::new(&memory, 7), state: Lent::new(&state, 8) };
+        let mut plain = proved.clone();
+        let opened = (open(&mut proved), number(open_plain(&mut plain)));
+        tally.answered("open", opened.0);
+        tally.compare(|| format!("open {words} words, {room} words of state"), (opened.0, &proved), (opened.1, &plain));
+        Script { proved, plain, words, last: (1, window(random, words / 2)), next: 1 }
+    }
+
+    /// Somebody changes what both have.
+    fn forge(&mut self, random: &mut Random) {
+        forge(random, &mut self.plain);
+        self.proved = self.plain.clone();
+        if let Ok(Some((number, window, _))) = stored::state(self.plain.state.part()).map(|s| s.kept) {
+            (self.last, self.next) = ((number, window), number.wrapping_add(1));
+        }
+    }
+
+    fn increment(&mut self, tally: &mut Tally, address: u32) {
+        let before = self.plain.clone();
+        let answers = (increment(&mut self.proved, address), number(increment_plain(&mut self.plain, address)));
+        tally.answered("increment", answers.0);
+        tally.compare(|| format!("increment {address} of {before:?}"), (answers.0, &self.proved), (answers.1, &self.plain));
+    }
+
+    fn flip(&mut self, tally: &mut Tally) {
+        let before = self.plain.clone();
+        let answers = (flip(&mut self.proved), number(flip_plain(&mut self.plain)));
+        tally.answered("flip", answers.0);
+        tally.compare(|| format!("flip {before:?}"), (answers.0, &self.proved), (answers.1, &self.plain));
+    }
+
+    /// An ask: new, the last once more, or one that is out of turn or of another window.
+    fn ask(&mut self, tally: &mut Tally, random: &mut Random) {
+        let before = self.plain.clone();
+        let fresh = window(random, self.words / 2);
+        let (number, window) = match random.below(12) {
+            0..=5 => (self.next, fresh),
+            6..=8 => self.last,
+            9 => (random.next() as u16, fresh),
+            10 => (self.last.0, fresh),
+            _ => (self.next.wrapping_sub(random.below(4) as u16), self.last.1),
+        };
+        let clear = if window.clear { (random.next() as u8).max(1) } else { 0 };
+        let held = random.next();
+        let got = ask(&mut self.proved, number, &window, clear, held);
+        let wanted = match ask_plain(&mut self.plain, number, window) {
+            Ok((sum, again)) => {
+                (self.last, self.next) = ((number, window), number.wrapping_add(1));
+                (0, sum, again)
+            }
+            Err(refused) => (refused, held, held as u8),
+        };
+        tally.answered(if got.0 == 0 && got.2 == 1 { "ask again" } else { "ask" }, got.0);
+        let Window { address, xsize, ysize, ystride, .. } = window;
+        let case = || format!("ask {number} of {address} {xsize} {ysize} {ystride} {clear} on {before:?}");
+        tally.compare(case, (got, &self.proved), (wanted, &self.plain));
+    }
+}
+
 /// A script on one memory: opened, then so many calls.
-fn script(tally: &mut Tally, random: &mut Random, calls: u64) {
+fn play(tally: &mut Tally, random: &mut Random, calls: u64) {
     let words = match random.below(20) {
         0 => random.below(4),
         1 => 2 * random.below(600) + random.below(9) / 8,
         _ => 2 + 2 * random.below(30),
     };
     let room = if random.below(30) == 0 { random.below(14) } else { 10 + random.below(2) };
-    let memory: Vec<u32> = (0..words).map(|_| random.next() as u32).collect();
-    let state: Vec<u64> = (0..room).map(|_| random.next()).collect();
-    let mut proved = Board { memory: Lent::new(&memory, 7), state: Lent::new(&state, 8) };
-    let mut plain = proved.clone();
-    let opened = (open(&mut proved), number(open_plain(&mut plain)));
-    tally.compare(|| format!("open {words} words, {room} words of state"), (opened.0, &proved), (opened.1, &plain));
+    let mut script = Script::open(tally, random, words, room);
     let forging = random.below(3) == 0;
-    let (mut last, mut n) = ((1, window(random, words / 2)), 1u16);
     for _ in 0..calls {
         if forging && random.below(25) == 0 {
-            forge(random, &mut plain);
-            proved = plain.clone();
-            if let Ok(Some((number, window, _))) = stored::state(plain.state.part()).map(|s| s.kept) {
-                (last, n) = ((number, window), number.wrapping_add(1));
-            }
+            script.forge(random);
         }
-        let before = plain.clone();
         match random.below(10) {
-            0..=4 => {
-                let address = random.below(words / 2 + 1) as u32;
-                let answers = (increment(&mut proved, address), number(increment_plain(&mut plain, address)));
-                tally.answered(answers.0);
-                tally.compare(|| format!("increment {address} of {before:?}"), (answers.0, &proved), (answers.1, &plain));
-            }
-            5 => {
-                let answers = (flip(&mut proved), number(flip_plain(&mut plain)));
-                tally.answered(answers.0);
-                tally.compare(|| format!("flip {before:?}"), (answers.0, &proved), (answers.1, &plain));
-            }
-            kind => {
-                let fresh = (n, window(random, words / 2));
-                let (number, window) = match kind {
-                    6 | 7 => fresh,
-                    8 => last,
-                    _ => match random.below(3) {
-                        0 => (random.next() as u16, fresh.1),
-                        1 => (last.0, fresh.1),
-                        _ => (n.wrapping_sub(random.below(4) as u16), last.1),
-                    },
-                };
-                let clear = if window.clear { 1 + (random.next() as u8).max(1) - 1 } else { 0 };
-                let held = random.next();
-                let got = ask(&mut proved, number, &window, clear, held);
-                tally.answered(got.0);
-                let wanted = match ask_plain(&mut plain, number, window) {
-                    Ok((sum, again)) => {
-                        (last, n) = ((number, window), number.wrapping_add(1));
-                        (0, sum, again)
-                    }
-                    Err(refused) => (refused, held, held as u8),
-                };
-                tally.compare(
-                    || format!("ask {number} of {} {} {} {} on {before:?}", window.address, window.xsize, window.ysize, window.ystride),
-                    (got, &proved),
-                    (wanted, &plain),
-                );
-            }
+            0..=4 => script.increment(tally, random.below(words / 2 + 1) as u32),
+            5 => script.flip(tally),
+            _ => script.ask(tally, random),
         }
     }
 }
 
 pub fn drive(random: &mut Random, cases: u64, tally: &mut Tally) {
+    for words in (0..6).chain(524_285..524_293) {
+        let mut script = Script::open(tally, random, words, 10);
+        script.increment(tally, (words / 2) as u32);
+        script.increment(tally, (words / 2).saturating_sub(1) as u32);
+        script.flip(tally);
+        script.ask(tally, random);
+    }
     for case in 0..cases {
-        script(tally, random, if case % 20 == 0 { 1500 } else { 150 });
+        play(tally, random, if case % 20 == 0 { 1500 } else { 150 });
     }
 }

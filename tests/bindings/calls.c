@@ -1,0 +1,282 @@
+/* Every call of the C header on document 01's cases and on refusals, a line each; the bindings print the same. */
+#include <inttypes.h>
+#include <stdio.h>
+#include <string.h>
+#include "plavotesk.h"
+
+static const char *const words[] = {
+    "",
+    "capture over 65,536 bytes",
+    "packet data over 8,187 bytes",
+    "buffer too short to write into",
+    "message mark wrong",
+    "message cut short",
+    "message checksum wrong",
+    "message address, tag or stray bits",
+    "number or drop outside the rule",
+    "bits ran out",
+    "redundant zero",
+    "run of ones too long",
+    "count too large for the format",
+    "memory length odd, outside 2 to 524,288, or not the state's 2N",
+    "address, or a window's last cell, not under N",
+    "counter full",
+    "a visited word above 67,108,863",
+    "ask number neither last nor next",
+    "last number, other window",
+    "second or level out of range",
+    "no packet",
+};
+
+/* The start of a line, and the refusal where there is one; whether the call was accepted. */
+static int accepted(const char *name, uint8_t number) {
+    printf("%s: ", name);
+    if (number != PLV_ACCEPTED) {
+        printf("refused %u: %s%s", number, words[number], number == PLV_NO_PACKET && strncmp(name, "find", 4) == 0 ? "" : "\n");
+    }
+    return number == PLV_ACCEPTED;
+}
+
+static void hex(const char *name, const uint8_t *bytes, size_t count) {
+    printf("%s: ", name);
+    for (size_t i = 0; i < count; i++) {
+        printf("%02x", bytes[i]);
+    }
+    printf("\n");
+}
+
+static void one(const char *name, uint8_t number, uint64_t value) {
+    if (accepted(name, number)) {
+        printf("%" PRIu64 "\n", value);
+    }
+}
+
+static void find(const char *name, const uint8_t *capture, size_t length) {
+    uint64_t place = 0, skipped = 0;
+    uint8_t number = plv_packet_find(capture, length, &place, &skipped);
+    if (accepted(name, number)) {
+        printf("%" PRIu64 " %" PRIu64 "\n", place, skipped);
+    } else if (number == PLV_NO_PACKET) {
+        printf(", carried %" PRIu64 "\n", skipped);
+    }
+}
+
+static void header(const char *name, const uint8_t *capture, size_t length, uint64_t place) {
+    uint16_t apid = 0, n = 0;
+    if (accepted(name, plv_packet_header(capture, length, place, &apid, &n))) {
+        printf("%u %u\n", apid, n);
+    }
+}
+
+static void payload(const char *name, const uint8_t *capture, size_t length, uint64_t place) {
+    uint64_t start = 0, n = 0;
+    plv_packet_payload(capture, length, place, &start, &n);
+    hex(name, capture + start, n);
+}
+
+static void packets(void) {
+    static uint8_t capture[30], zeros[65537];
+    uint64_t written = 0;
+    uint8_t number;
+    printf("checksum: %04x\n", plv_checksum((const uint8_t *)"123456789", 9));
+    memset(capture, 0xee, 30);
+    number = plv_packet_write(capture + 7, 23, 0x0301, (const uint8_t *)"counts", 6, &written);
+    one("write", number, written);
+    hex("capture", capture, 30);
+    find("find", capture, 30);
+    find("find nothing", capture, 22);
+    find("find in too much", zeros, 65537);
+    header("header", capture, 30, 7);
+    header("header elsewhere", capture, 30, 8);
+    payload("payload", capture, 30, 7);
+    payload("payload elsewhere", capture, 30, 8);
+    number = plv_packet_write(capture, 30, 1, zeros, 8188, &written);
+    one("write too much", number, written);
+    number = plv_packet_write(capture, 9, 1, zeros, 0, &written);
+    one("write into too little", number, written);
+}
+
+static void read_message(const char *name, const uint8_t *bytes, size_t length) {
+    uint16_t address = 0;
+    uint8_t tag = 0;
+    uint64_t value = 0, used = 0;
+    if (accepted(name, plv_message_read(bytes, length, &address, &tag, &value, &used))) {
+        printf("%x %u %" PRIx64 " %" PRIu64 "\n", address, tag, value, used);
+    }
+}
+
+static void messages(void) {
+    static const uint8_t zeros[4];
+    uint8_t buffer[12], number;
+    uint64_t written = 0;
+    memset(buffer, 0xee, 12);
+    number = plv_message_write(buffer, 12, 0x1234, 2, 0xdeadbeef, &written);
+    one("write message", number, written);
+    hex("message", buffer, 12);
+    read_message("read message", buffer, 12);
+    read_message("read cut message", buffer, 9);
+    read_message("read no message", zeros, 4);
+    buffer[5] ^= 1;
+    read_message("read damaged message", buffer, 12);
+    number = plv_message_write(buffer, 12, 0, 0, 1, &written);
+    one("write stray bits", number, written);
+    number = plv_message_write(buffer, 5, 0, 0, 0, &written);
+    one("write message into too little", number, written);
+}
+
+static void unpack(const char *name, const uint8_t *bytes, size_t length, uint64_t at, uint8_t drop) {
+    int32_t value = 0;
+    uint64_t next = 0;
+    if (accepted(name, plv_code_unpack(bytes, length, at, drop, &value, &next))) {
+        printf("%" PRId32 " %" PRIu64 "\n", value, next);
+    }
+}
+
+static void rate(const char *name, const uint8_t *bytes, size_t length, uint64_t at, uint8_t drop, uint8_t level) {
+    double low = 0, high = 0, seconds = 0;
+    uint64_t next = 0;
+    if (accepted(name, plv_rate(bytes, length, at, drop, level, &low, &high, &seconds, &next))) {
+        printf("%.3f to %.3f over %.1f %" PRIu64 "\n", low, high, seconds, next);
+    }
+}
+
+static void reading(const uint8_t *bytes, size_t length, uint64_t at, uint8_t drop) {
+    double low = 0, high = 0;
+    uint8_t exact = 0;
+    uint64_t next = 0;
+    if (accepted("reading", plv_reading(bytes, length, at, drop, &low, &high, &exact, &next))) {
+        if (exact) {
+            printf("exactly %.1f %" PRIu64 "\n", low, next);
+        } else {
+            printf("%.1f to %.1f %" PRIu64 "\n", low, high, next);
+        }
+    }
+}
+
+static void codes(void) {
+    static const int32_t values[] = {0, 5, -16, 32, 100, 3, 4, 33554431, 33554432, 5};
+    static const uint8_t drops[] = {0, 0, 0, 0, 0, 3, 3, 0, 0, 1}, zero[1];
+    uint8_t buffer[4];
+    char name[40];
+    for (int i = 0; i < 10; i++) {
+        uint64_t next = 0;
+        memset(buffer, 0xff, 4);
+        snprintf(name, sizeof name, "pack %" PRId32 " drop %u", values[i], drops[i]);
+        uint8_t number = plv_code_pack(buffer, 4, 3, values[i], drops[i], &next);
+        one(name, number, next);
+        hex("bits", buffer, 4);
+        unpack("unpack", buffer, 4, 3, drops[i]);
+        reading(buffer, 4, 3, drops[i]);
+        rate("rate", buffer, 4, 3, drops[i], 1);
+    }
+    uint64_t next = 0;
+    uint8_t number = plv_code_pack(buffer, 0, 0, 5, 0, &next);
+    one("pack into nothing", number, next);
+    unpack("unpack nothing", zero, 0, 0, 0);
+    rate("rate at level 8", zero, 1, 0, 0, 8);
+}
+
+static void floats(void) {
+    static const uint64_t sixteen[] = {8191, 8193, 1u << 27}, eight[] = {100, 1ull << 34};
+    char name[40];
+    for (int i = 0; i < 3; i++) {
+        uint16_t code = 0;
+        snprintf(name, sizeof name, "float16 of %" PRIu64, sixteen[i]);
+        uint8_t number = plv_float16_code(sixteen[i], &code);
+        one(name, number, code);
+    }
+    printf("float16 8192: %" PRIu64 "\n", plv_float16_count(8192));
+    for (int i = 0; i < 2; i++) {
+        uint8_t code = 0;
+        snprintf(name, sizeof name, "float8 of %" PRIu64, eight[i]);
+        uint8_t number = plv_float8_code(eight[i], &code);
+        one(name, number, code);
+    }
+    printf("float8 36: %" PRIu64 "\n", plv_float8_count(36));
+    for (uint32_t count = 16777215; count <= 16777216; count++) {
+        uint32_t code = 0;
+        snprintf(name, sizeof name, "int24 of %" PRIu32, count);
+        uint8_t number = plv_int24_code(count, &code);
+        one(name, number, code);
+        snprintf(name, sizeof name, "int24 %" PRIu32, count);
+        number = plv_int24_count(count, &code);
+        one(name, number, code);
+    }
+}
+
+static void cadence(void) {
+    static const uint8_t levels[] = {0, 7, 8};
+    static const uint16_t seconds[] = {0, 59, 3600};
+    char name[40];
+    for (int i = 0; i < 3; i++) {
+        uint16_t lasts = 0;
+        snprintf(name, sizeof name, "level %u", levels[i]);
+        uint8_t number = plv_level_seconds(levels[i], &lasts);
+        one(name, number, lasts);
+    }
+    for (int i = 0; i < 3; i++) {
+        uint8_t level = 0;
+        snprintf(name, sizeof name, "beginning %u", seconds[i]);
+        uint8_t number = plv_second_beginning(seconds[i], &level);
+        one(name, number, level);
+        snprintf(name, sizeof name, "ending %u", seconds[i]);
+        number = plv_second_ending(seconds[i], &level);
+        one(name, number, level);
+    }
+}
+
+static uint32_t memory[4];
+static uint64_t state[PLV_STATE_WORDS];
+
+static void ask(const char *name, uint16_t number, uint32_t address, uint8_t clear) {
+    uint64_t sum = 0;
+    uint8_t again = 0;
+    if (accepted(name, plv_histogram_ask(memory, 4, state, PLV_STATE_WORDS, number, address, 1, 0, 0, clear, &sum, &again))) {
+        printf("%" PRIu64 " %s\n", sum, again ? "again" : "new");
+    }
+}
+
+static void show_memory(void) {
+    printf("memory: [%" PRIu32 ", %" PRIu32 ", %" PRIu32 ", %" PRIu32 "]\n", memory[0], memory[1], memory[2], memory[3]);
+}
+
+static void histogram(void) {
+    static const uint32_t addresses[] = {0, 0, 0, 2};
+    static uint32_t large[524290];
+    char name[40];
+    one("open 0", plv_histogram_open(memory, 0, state, PLV_STATE_WORDS), 0);
+    one("open 262145", plv_histogram_open(large, 524290, state, PLV_STATE_WORDS), 0);
+    if (plv_histogram_open(memory, 4, state, PLV_STATE_WORDS) != PLV_ACCEPTED) {
+        printf("not opened\n");
+    }
+    ask("repeat before asking", 0, 0, 1);
+    for (int i = 0; i < 4; i++) {
+        snprintf(name, sizeof name, "increment %" PRIu32, addresses[i]);
+        if (accepted(name, plv_histogram_increment(memory, 4, state, PLV_STATE_WORDS, addresses[i]))) {
+            printf("counted\n");
+        }
+    }
+    show_memory();
+    if (plv_histogram_flip(memory, 4, state, PLV_STATE_WORDS) != PLV_ACCEPTED) {
+        printf("not exchanged\n");
+    }
+    printf("next number: 1\n");
+    ask("ask", 1, 0, 1);
+    ask("repeat", 1, 0, 1);
+    ask("ask", 2, 0, 1);
+    ask("ask 4", 4, 0, 1);
+    ask("ask 2 of another window", 2, 0, 0);
+    ask("ask too far", 3, 1, 1);
+    printf("next number: 3\n");
+    show_memory();
+}
+
+int main(void) {
+    packets();
+    messages();
+    codes();
+    floats();
+    cadence();
+    histogram();
+    return 0;
+}
