@@ -244,8 +244,12 @@ unfolding byteBits
 byte-rest number = toBits-rest 8 number
 
 -- the last bits of a byte taken away, as shifts do it
-pub kept-is : (byte room : ℕ) → byte < 256 → byte / 2 ^ room * 2 ^ room % 2 ^ 64 ≡ byte / 2 ^ room * 2 ^ room
-kept-is byte room h = mod-eq-of-lt (omega (arith, split byte room))
+pub kept-is : (byte room : ℕ) → byte < 256
+    → (byte / 2 ^ room * 2 ^ room % 2 ^ 64 ≡ byte / 2 ^ room * 2 ^ room) × (byte / 2 ^ room * 2 ^ room % 2 ^ 64 < 256)
+kept-is byte room h =
+    let few : byte / 2 ^ room * 2 ^ room < 256 = omega (arith, split byte room) in
+    let e : byte / 2 ^ room * 2 ^ room % 2 ^ 64 ≡ byte / 2 ^ room * 2 ^ room = mod-eq-of-lt (omega arith) in
+    (e, subst (λ (n : ℕ). n < 256) (sym e) few)
 
 module _ (byte room number top : ℕ) (small-byte : byte < 256) (in-byte : room ≤ 8) (fits : number < 2 ^ room) (top-is : top ≡ byte / 2 ^ room * 2 ^ room) where
   -- a byte whose last bits are replaced

@@ -215,7 +215,7 @@ fn filled(byte: u64, room: u32, number: u64) -> u64
 // A byte without its last bits.
 fn kept(byte: u64, room: u32) -> u64
     requires { ⌜ (byte < 256) × (room ≤ 8) ⌝ }
-    ensures { λ r. ⌜ r ≡ byte / 2 ^ room * 2 ^ room ⌝ }
+    ensures { λ r. ⌜ (r ≡ byte / 2 ^ room * 2 ^ room) × (r < 256) ⌝ }
 {
     (byte >> room) << room
 }
