@@ -189,7 +189,7 @@ fn upper(register: u16) -> u16
     register / 256
 }
 
-// The register after sixteen bits: what the polynomial makes of it and of all that falls out, turn by turn.
+// The register after sixteen bits.
 fn shifted(register: u16) -> u16
     ensures { λ r. ⌜ r ≡ sixteen register ⌝ }
 {

@@ -62,7 +62,7 @@ keptIn f = pick (eqb (f .kept) 0) Kept.Nothing (Kept.Last (f .number) (windowIn 
 abbrev pub stateIn : Form → State
 stateIn f = record { words = f .words; second = eqb (f .second) 1; kept = keptIn f }
 
--- the state that words hold; 13 for fewer than ten and for words that no state has, since such words have no 2N that a memory could have
+-- the state that words hold; 13 for fewer than ten and for words that no state has: there is no state whose 2N a memory could have
 unfoldable pub stateOf : List ℕ → Paper State
 stateOf l = pick (leb 10 (length l)) (pick (soundOf (formIn l)) (accepted (stateIn (formIn l))) (refused 13)) (refused 13)
 
