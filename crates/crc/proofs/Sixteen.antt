@@ -5,11 +5,11 @@ use Prim.Native.Nat.{ℕ, _+_, _*_, _/_, _%_, _^_, _<_}
 use native.Mathlib.Nat.{mod-lt, div-eq-of-lt, add-zero}
 use native.Mathlib.Omega.{arith}
 use lib.Pow.{shr-lt, shl-lt, split, pow-pos}
-use lib.Bits.{bitXor, xor-lt, xor-mod, xor-shr, xor-block, xor-shifted, xor-zero-r, xor-zero-l, xor-comm}
+use lib.Bits.{bitXor, xor-lt, xor-mod, xor-block, xor-shifted, xor-zero-r, xor-zero-l, xor-comm}
 use Rattle.crc.specs.Meaning.{shift, shifts, step}
 use Rattle.crc.specs.Laws.{shift-lt, shifts-lt}
 use Rattle.crc.specs.Folding.{sixteen, carryOf, spreadOf}
-use Rattle.crc.proofs.Xor.{xor-assoc, xor-middle, xor-twice}
+use Rattle.crc.proofs.Xor.{xor-assoc, xor-middle}
 use Rattle.crc.proofs.Linear.{moved-xor, shifts-xor, shifts-add, shifts-small, shifts-zero}
 use Rattle.crc.proofs.Root.{root}
 
@@ -60,7 +60,7 @@ carry-lt : (j x : ℕ) → x < 2 ^ (j + 4) → x < 2 ^ (j + 11) → carryOf x < 
 carry-lt j x h k = xor-lt j (x / 2 ^ 4) (x / 2 ^ 11) (shr-lt j 4 h) (shr-lt j 11 k)
 
 -- after four turns nothing falls out
-sixteen-turns : (x a b c : ℕ) → x < 2 ^ 16 → a ≡ carryOf x → b ≡ carryOf a → c ≡ carryOf b
+pub sixteen-turns : (x a b c : ℕ) → x < 2 ^ 16 → a ≡ carryOf x → b ≡ carryOf a → c ≡ carryOf b
     → spreadOf (bitXor (bitXor (bitXor x a) b) c) ≡ sixteen x
 sixteen-turns x a b c hx ea eb ec =
     let ha : a < 2 ^ 12 = subst (λ (y : ℕ). y < 2 ^ 12) (sym ea) (carry-lt 12 x hx (omega arith)) in
@@ -82,30 +82,6 @@ sixteen-turns x a b c hx ea eb ec =
     ∙ xor-comm (spreadOf x) (sixteen a)
     ∙ ap (λ (y : ℕ). bitXor (sixteen y) (spreadOf x)) ea
     ∙ sym (turn x hx)
-
--- what falls out at the second turn, and at the third
-second-carry : (x : ℕ) → x < 2 ^ 16 → x / 2 ^ 8 ≡ carryOf (carryOf x)
-second-carry x h =
-    let a : x / 2 ^ 4 / 2 ^ 4 ≡ x / 2 ^ 8 = omega arith in
-    let b : x / 2 ^ 11 / 2 ^ 4 ≡ x / 2 ^ 15 = omega arith in
-    let c : x / 2 ^ 4 / 2 ^ 11 ≡ x / 2 ^ 15 = omega arith in
-    let d : x / 2 ^ 11 / 2 ^ 11 ≡ 0 = omega arith in
-    sym
-    (ap₂ bitXor
-    (xor-shr (x / 2 ^ 4) (x / 2 ^ 11) 4 ∙ ap₂ bitXor a b)
-    (xor-shr (x / 2 ^ 4) (x / 2 ^ 11) 11 ∙ ap₂ bitXor c d ∙ xor-zero-r (x / 2 ^ 15))
-    ∙ xor-twice (x / 2 ^ 8) (x / 2 ^ 15))
-
-third-carry : (x : ℕ) → x < 2 ^ 16 → x / 2 ^ 12 ≡ carryOf (x / 2 ^ 8)
-third-carry x h =
-    let a : x / 2 ^ 8 / 2 ^ 4 ≡ x / 2 ^ 12 = omega arith in
-    let b : x / 2 ^ 8 / 2 ^ 11 ≡ 0 = omega arith in
-    sym (ap₂ bitXor a b ∙ xor-zero-r (x / 2 ^ 12))
-
--- all four turns at once
-pub sixteen-at-once : (x a : ℕ) → x < 2 ^ 16 → a ≡ carryOf x → spreadOf (bitXor (bitXor (bitXor x a) (x / 2 ^ 8)) (x / 2 ^ 12)) ≡ sixteen x
-sixteen-at-once x a h e =
-    sixteen-turns x a (x / 2 ^ 8) (x / 2 ^ 12) h e (second-carry x h ∙ ap carryOf (sym e)) (third-carry x h)
 
 -- sixteen bits leave a register
 pub sixteen-lt : (x : ℕ) → sixteen x < 2 ^ 16
