@@ -1,32 +1,23 @@
-// What the test programs share: blocks of bytes, one after the other, from standard input.
+// What the test programs share: blocks of bytes, and the numbers in them.
 ghost use mathlib.Core.Path.{_≡_};
-ghost use Prim.Native.Nat.{_+_, _*_, _<_};
-ghost use lib.ListN.{take, drop, getD};
-ghost use Rattle.feed.specs.Meaning.{NextPromise};
-use libc::STDIN_FILENO;
+ghost use Prim.Native.Nat.{_<_};
+ghost use Rattle.feed.specs.Promise.{AfterPromise, BytePromise, EightPromise, FourPromise, FrontPromise, NextPromise, TwoPromise};
 
-// A block that was read, or the end of the input.
+// A block that came whole, by its size; or the end of the input.
 pub enum Block {
     Of(usize),
     End,
 }
 
-// The next block, put at the front of room: four bytes of length, big endian, then so many bytes. A block that is cut short
-// or longer than room ends the input.
-pub fn next(room: &mut [u8]) -> Block
-    ensures { λ r. ⌜ NextPromise r (now (room .exit)) ⌝ }
+// The block at the front of what came: four bytes of length, big endian, then so many bytes. One that is cut short ends the input.
+pub fn next(came: &[u8]) -> Block
+    ensures { λ r. ⌜ NextPromise (now (came .entry)) r ⌝ }
 {
-    let mut head = [0u8; 4];
-    let got = io::read_full(STDIN_FILENO, &mut head);
-    if got < 4 {
+    if came.len() < 4 {
         return Block::End;
     }
-    let size = four(&head) as usize;
-    if room.len() < size {
-        return Block::End;
-    }
-    let put = io::read_full(STDIN_FILENO, &mut room[..size]);
-    if put < size {
+    let size = four(came) as usize;
+    if came.len() - 4 < size {
         return Block::End;
     }
     Block::Of(size)
@@ -34,7 +25,7 @@ pub fn next(room: &mut [u8]) -> Block
 
 // The bytes at the front of room, so many of them, or all where there are fewer.
 pub fn front(room: &[u8], size: usize) -> &[u8]
-    ensures { λ r. ⌜ now r ≡ take size (now (room .entry)) ⌝ }
+    ensures { λ r. ⌜ FrontPromise (room .entry) size r ⌝ }
 {
     if size <= room.len() {
         &room[..size]
@@ -45,7 +36,7 @@ pub fn front(room: &[u8], size: usize) -> &[u8]
 
 // The bytes from a place on; none past the end.
 pub fn after(bytes: &[u8], at: usize) -> &[u8]
-    ensures { λ r. ⌜ now r ≡ drop at (now (bytes .entry)) ⌝ }
+    ensures { λ r. ⌜ AfterPromise (bytes .entry) at r ⌝ }
 {
     if at <= bytes.len() {
         &bytes[at..]
@@ -56,30 +47,36 @@ pub fn after(bytes: &[u8], at: usize) -> &[u8]
 
 // The byte at a place, 0 past the end.
 pub fn byte(bytes: &[u8], at: usize) -> u64
-    ensures { λ r. ⌜ (r ≡ getD (now (bytes .entry)) at 0) × (r < 256) ⌝ }
+    ensures { λ r. ⌜ BytePromise (now (bytes .entry)) at r ⌝ }
 {
     if at < bytes.len() { wide(bytes[at]) } else { 0 }
 }
 
 // The number that the first two bytes mean.
 pub fn two(bytes: &[u8]) -> u64
-    ensures { λ r. ⌜ (r ≡ getD (now (bytes .entry)) 0 0 * 256 + getD (now (bytes .entry)) 1 0) × (r < 65536) ⌝ }
+    ensures { λ r. ⌜ TwoPromise (now (bytes .entry)) r ⌝ }
 {
-    byte(bytes, 0) * 256 + byte(bytes, 1)
+    let high = byte(bytes, 0);
+    let low = byte(bytes, 1);
+    high * 256 + low
 }
 
 // The number that the first four bytes mean.
 pub fn four(bytes: &[u8]) -> u64
-    ensures { λ r. ⌜ r < 4294967296 ⌝ }
+    ensures { λ r. ⌜ FourPromise (now (bytes .entry)) r ⌝ }
 {
-    two(bytes) * 65536 + two(after(bytes, 2))
+    let high = two(bytes);
+    let low = two(after(bytes, 2));
+    high * 65536 + low
 }
 
 // The number that the first eight bytes mean.
 pub fn eight(bytes: &[u8]) -> u64
-    ensures { λ r. ⌜ r < 18446744073709551616 ⌝ }
+    ensures { λ r. ⌜ EightPromise (now (bytes .entry)) r ⌝ }
 {
-    four(bytes) * 4294967296 + four(after(bytes, 4))
+    let high = four(bytes);
+    let low = four(after(bytes, 4));
+    high * 4294967296 + low
 }
 
 // A byte as a number.

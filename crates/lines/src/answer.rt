@@ -1,4 +1,5 @@
 // A line's answer put into a room, and what one byte of input does.
+use crate::ENOUGH;
 use crate::Line;
 use crate::fresh_line;
 use crate::taken;
@@ -10,8 +11,11 @@ ghost use Prim.Native.Nat.{_+_, _≤_};
 ghost use lib.ListN.{length};
 ghost use Rattle.code.specs.Meaning.{largest};
 ghost use Rattle.lines.specs.Reading.{answerOf, known, sound};
-ghost use Rattle.lines.specs.Running.{nextLine, says, waits};
+ghost use Rattle.lines.specs.Running.{enough, nextLine, says, waits};
 ghost use Rattle.lines.specs.Texts.{Put};
+
+// The largest magnitude that a line may give.
+const LARGEST: u32 = 33554431;
 
 // What a line that is refused prints.
 const REFUSED: [u8; 10] = [114, 101, 102, 117, 115, 101, 100, 32, 56, 10];
@@ -32,12 +36,16 @@ pub(crate) fn may_go(byte: u8, put: usize, size: usize) -> bool
     requires { ⌜ put ≤ size ⌝ }
     ensures { λ r. ⌜ r ≡ not (waits size put byte) ⌝ }
 {
-    if byte == 10 { 80 <= size - put } else { true }
+    if byte == 10 {
+        ENOUGH <= size - put
+    } else {
+        true
+    }
 }
 
 // Puts what a byte prints.
 pub(crate) fn put_said(room: &mut [u8], at: usize, line: Line, byte: u8) -> usize
-    requires { ⌜ (at ≤ length (now room)) × (byte ≡ 10 → at + 80 ≤ length (now room)) ⌝ }
+    requires { ⌜ (at ≤ length (now room)) × (byte ≡ 10 → at + enough ≤ length (now room)) ⌝ }
     ensures { λ r. ⌜ Put (now (room .entry)) at (says line byte) r (now (room .exit)) ⌝ }
 {
     if byte == 10 {
@@ -49,7 +57,7 @@ pub(crate) fn put_said(room: &mut [u8], at: usize, line: Line, byte: u8) -> usiz
 
 // Puts a line's answer.
 pub(crate) fn put_line(room: &mut [u8], at: usize, line: Line) -> usize
-    requires { ⌜ at + 80 ≤ length (now room) ⌝ }
+    requires { ⌜ at + enough ≤ length (now room) ⌝ }
     ensures { λ r. ⌜ Put (now (room .entry)) at (answerOf line) r (now (room .exit)) ⌝ }
 {
     if is_sound(line) {
@@ -70,7 +78,7 @@ fn is_sound(line: Line) -> bool
     if line.digits < 1 {
         return false;
     }
-    line.value <= 33554431
+    line.value <= LARGEST
 }
 
 // The number that is known of a line.

@@ -12,6 +12,9 @@ use answer::put_said;
 use byte::digit_taken;
 use text::put_text;
 
+// The room that any line's answer fits, and the header.
+const ENOUGH: usize = 80;
+
 // The program's header.
 const HEADER: [u8; 18] = [
     118,
@@ -78,22 +81,22 @@ pub fn taken(line: Line, byte: u8) -> Line
     }
 }
 
-// The header, put at the front of a room of 80 bytes or more; how many bytes were put.
+// The header, put at the front of a room of ENOUGH bytes or more; how many bytes were put.
 pub fn put_header(room: &mut [u8]) -> usize
     ensures { λ r. ⌜ HeaderPromise (now (room .entry)) r (now (room .exit)) ⌝ }
 {
-    if room.len() < 80 {
+    if room.len() < ENOUGH {
         0
     } else {
         put_text(room, 0, &HEADER)
     }
 }
 
-// A line's answer, put at the front of a room of 80 bytes or more; how many bytes were put.
+// A line's answer, put at the front of a room of ENOUGH bytes or more; how many bytes were put.
 pub fn put_answer(line: Line, room: &mut [u8]) -> usize
     ensures { λ r. ⌜ AnswerPromise line (now (room .entry)) r (now (room .exit)) ⌝ }
 {
-    if room.len() < 80 {
+    if room.len() < ENOUGH {
         0
     } else {
         put_line(room, 0, line)

@@ -10,12 +10,13 @@ ghost use Rattle.code.specs.Answers.{packedPaper};
 ghost use Rattle.code.specs.Meaning.{largest};
 ghost use Rattle.code.specs.Shapes.{Drop};
 ghost use Rattle.lines.specs.Meaning.{shortest, codeText, valueText, numberText};
+ghost use Rattle.lines.specs.Running.{enough};
 ghost use Rattle.lines.specs.Texts.{Put, nextOf};
 use code::Packed;
 
 // Puts a number's line: the value and both codes.
 pub(crate) fn put_number(room: &mut [u8], at: usize, v: i32) -> usize
-    requires { ⌜ (at + 80 ≤ length (now room)) × (natAbs v ≤ largest) ⌝ }
+    requires { ⌜ (at + enough ≤ length (now room)) × (natAbs v ≤ largest) ⌝ }
     ensures { λ r. ⌜ Put (now (room .entry)) at (numberText v) r (now (room .exit)) ⌝ }
 {
     let value = put_value(room, at, v);

@@ -115,7 +115,7 @@ fn unpacks_one(room: &mut [u8], length: usize, given: &[u8], low: u8) -> usize {
     let drop = feed::byte(given, 0) as u8;
     let at = feed::byte(given, 1);
     let bytes = [feed::byte(given, 2) as u8, low];
-    unpacked_log(room, length, code::unpack(&bytes, at, drop))
+    unpacked_log(room, length, reader::read_at(&bytes, at, drop))
 }
 
 fn unpacked_log(room: &mut [u8], length: usize, answer: Unpacked) -> usize {

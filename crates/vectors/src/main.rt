@@ -13,17 +13,18 @@ mod rates;
 mod say;
 
 use feed::Block;
+use libc::STDIN_FILENO;
 
 fn main() {
     let mut room = largest();
     serve(&mut room);
 }
 
-// Room for the largest block.
-fn largest() -> [u8; 131072]
-    ensures { λ r. ⌜ 131072 ≡ length r ⌝ }
+// Room for the largest block, and the four bytes of its length.
+fn largest() -> [u8; 131076]
+    ensures { λ r. ⌜ 131076 ≡ length r ⌝ }
 {
-    [0; 131072]
+    [0; 131076]
 }
 
 // A proved loop has to end: it counts its turns down, from a number that no run uses up.
@@ -36,14 +37,34 @@ fn serve(room: &mut [u8]) {
 
 // Answers one block, and whether there was one.
 fn one(room: &mut [u8]) -> bool {
-    let block = feed::next(room);
+    let came = take_in(room);
+    let block = feed::next(feed::front(room, came));
     match block {
         Block::Of(size) => {
-            answer(feed::front(room, size));
+            answer(feed::front(feed::after(room, 4), size));
             true
         }
         Block::End => false,
     }
+}
+
+// Reads the next block to the front of the room, its four bytes of length and so many bytes where the room holds them; how many
+// bytes came.
+fn take_in(room: &mut [u8]) -> usize {
+    if room.len() < 4 {
+        return 0;
+    }
+    let head = io::read_full(STDIN_FILENO, &mut room[..4]);
+    if head < 4 {
+        return head;
+    }
+    let size = feed::four(room) as usize;
+    if room.len() - 4 < size {
+        return 4;
+    }
+    let end = size + 4;
+    let put = io::read_full(STDIN_FILENO, &mut room[4..end]);
+    4 + put
 }
 
 // Prints the line that answers a block.

@@ -1,11 +1,13 @@
 -- `feed::after` meets its contract: the rest, or nothing.
 -- Assumes nothing.
-use Prim.Native.Nat.{_-_}
-use mathlib.Core.Path.{sym}
+use Prim.Native.Nat.{ℕ, _+_, _-_}
+use mathlib.Core.Path.{refl, sym, ap, _∙_}
+use native.Mathlib.Nat.{add-zero, add-comm}
 use native.Mathlib.Omega.{arith}
 use borrow.Author.Needs.{needs}
 use lib.ListN.{length, drop, length-drop, drop-of-length-le}
 use lib.Seq.{take-all}
+use Rattle.feed.proofs.Numbers.{starts-there, starts-nowhere}
 use Rattle.feed.proofs.after.Statement.{statement}
 use Rattle.feed.proofs.after.Tie as tie
 
@@ -22,10 +24,24 @@ slice-aggregate-result : tie.Need-slice-aggregate-result
 slice-aggregate-result c = search needs
 
 returns : tie.Need-returns
-returns c = take-all (length (c .before .before .args .bytes .now) - c .before .before .args .at) (drop (c .before .before .args .at) (c .before .before .args .bytes .now)) (simp length-drop (omega arith))
+returns c =
+    let x = c .before .before .args .bytes in
+    let at = c .before .before .args .at in
+    record {
+      bytes = take-all (length (x .now) - at) (drop at (x .now)) (simp length-drop (omega arith));
+      block = refl;
+      place = add-comm at (x .ptr .1) ∙ ap (λ (n : ℕ). x .ptr .1 + n) (starts-there (x .now) at (search needs));
+    }
 
 returns-2 : tie.Need-returns-2
-returns-2 c = sym (drop-of-length-le (c .before .before .args .bytes .now) {i = c .before .before .args .at} (search needs))
+returns-2 c =
+    let x = c .before .before .args .bytes in
+    let at = c .before .before .args .at in
+    record {
+      bytes = sym (drop-of-length-le (x .now) {i = at} (search needs));
+      block = refl;
+      place = sym (add-zero (x .ptr .1)) ∙ ap (λ (n : ℕ). x .ptr .1 + n) (starts-nowhere (x .now) at (search needs));
+    }
 
 pub after-spec : {M : Type 1} → statement M
 after-spec =

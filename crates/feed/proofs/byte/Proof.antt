@@ -17,7 +17,7 @@ returns : tie.Need-returns
 returns c = search needs
 
 returns-2 : tie.Need-returns-2
-returns-2 c = (sym (List·getD-eq-default (c .before .before .args .bytes .now) 0 (search needs)), omega arith)
+returns-2 c = record { answer = sym (List·getD-eq-default (c .before .before .args .bytes .now) 0 (search needs)); below = omega arith }
 
 pub byte-spec : {M : Type 1} → statement M
 byte-spec = tie.close (tie.spec shared-slice-read-wide wide-requires returns returns-2)

@@ -1,6 +1,6 @@
 -- `feed::front` meets its contract: a front that is there, or the whole.
 -- Assumes nothing.
-use mathlib.Core.Path.{sym}
+use mathlib.Core.Path.{refl, sym}
 use native.Mathlib.Omega.{arith}
 use borrow.Author.Needs.{needs}
 use lib.ListN.{length-take}
@@ -15,7 +15,7 @@ returns : tie.Need-returns
 returns c = search needs
 
 returns-2 : tie.Need-returns-2
-returns-2 c = sym (take-all (c .before .args .size) (c .before .args .room .now) (search needs))
+returns-2 c = record { bytes = sym (take-all (c .before .args .size) (c .before .args .room .now) (search needs)); block = refl; place = refl }
 
 pub front-spec : {M : Type 1} → statement M
 front-spec = tie.close (tie.spec slice-aggregate-result returns returns-2)

@@ -1,64 +1,24 @@
--- `feed::next` meets its contract: the block was read into the front of the room.
+-- `feed::next` meets its contract: a return for each way that the bytes can be cut.
 -- Assumes nothing.
-use native.Mathlib.Omega.{arith}
 use borrow.Author.Needs.{needs}
-use lib.ListN.{length-take}
+use Rattle.feed.proofs.Numbers.{none-announced, cut-short, came-whole}
 use Rattle.feed.proofs.next.Statement.{statement}
 use Rattle.feed.proofs.next.Tie as tie
 
-slice-aggregate-read-full : tie.Need-slice-aggregate-read-full
-slice-aggregate-read-full c = search needs
-
-read-full-requires : tie.Need-read-full-requires
-read-full-requires c κs = search needs
-
 returns : tie.Need-returns
-returns c = search needs
-
-slice-aggregate-four : tie.Need-slice-aggregate-four
-slice-aggregate-four c = search needs
+returns c = none-announced (c .before .before .args .came .now) (search needs)
 
 four-requires : tie.Need-four-requires
 four-requires c κs = search needs
 
+sub-if2 : tie.Need-sub-if2
+sub-if2 c = search needs
+
 returns-2 : tie.Need-returns-2
-returns-2 c = search needs
-
-slice-relend-prefix-read-full : tie.Need-slice-relend-prefix-read-full
-slice-relend-prefix-read-full c = search needs
-
-slice-aggregate-read-full-2 : tie.Need-slice-aggregate-read-full-2
-slice-aggregate-read-full-2 c = simp length-take (omega arith)
-
-read-full-requires-2 : tie.Need-read-full-requires-2
-read-full-requires-2 c κs = search needs
-
-same-length : tie.Need-same-length
-same-length c = search needs
+returns-2 c = cut-short (c .before .before .before .before .args .came .now) (c .before .four .result) (search needs) (c .before .four .ensures .answer) (search needs)
 
 returns-3 : tie.Need-returns-3
-returns-3 c = search needs
-
-same-length-2 : tie.Need-same-length-2
-same-length-2 c = search needs
-
-returns-4 : tie.Need-returns-4
-returns-4 c = search needs
+returns-3 c = came-whole (c .before .before .before .before .args .came .now) (c .before .four .result) (search needs) (c .before .four .ensures .answer) (search needs)
 
 pub next-spec : {M : Type 1} → statement M
-next-spec =
-    tie.close
-    (tie.spec
-    slice-aggregate-read-full
-    read-full-requires
-    returns
-    slice-aggregate-four
-    four-requires
-    returns-2
-    slice-relend-prefix-read-full
-    slice-aggregate-read-full-2
-    read-full-requires-2
-    same-length
-    returns-3
-    same-length-2
-    returns-4)
+next-spec = tie.close (tie.spec returns four-requires sub-if2 returns-2 returns-3)
