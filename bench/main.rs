@@ -1,6 +1,6 @@
 //! The proved calls against plain Rust, in one process and on the same inputs. Prints a table: nanoseconds of each, and the
-//! ratio proved over plain, the median of alternating rounds; under 1.0 the proved call is the faster. Then how time grows with
-//! the work.
+//! ratio proved over plain, the median of alternating rounds; under 1.0 the proved call is the faster. Asked for `growth`, it prints how
+//! time grows with the work instead.
 
 #[path = "plain.rs"]
 mod plain;
@@ -408,6 +408,11 @@ fn growth(random: &mut Random) {
 
 fn main() {
     let mut random = Random(1);
+    if std::env::args().nth(1).as_deref() == Some("growth") {
+        println!("| work | unit | nanoseconds a unit, at four sizes | | | |\n|---|---|---|---|---|---|");
+        growth(&mut random);
+        return;
+    }
     println!("| work | proved, ns | plain, ns | proved / plain |\n|---|---|---|---|");
     checksums(&mut random);
     finding(&mut random);
@@ -415,6 +420,4 @@ fn main() {
     messages(&mut random);
     codes(&mut random);
     asks();
-    println!("\n| work | unit | nanoseconds a unit, at four sizes | | | |\n|---|---|---|---|---|---|");
-    growth(&mut random);
 }

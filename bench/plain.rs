@@ -1,4 +1,5 @@
-//! The same work in plain Rust, as a bench programmer would write it: idiomatic, safe, and with a table for the checksum.
+//! The same work in plain Rust, as a bench programmer would write it: idiomatic, safe, and with a table for the checksum. Built
+//! twice: as it is, and with each of these calls kept a call, as those of a library are.
 
 const MARK: [u8; 4] = [0xbe, 0xba, 0xca, 0xfe];
 const SIZES: [usize; 4] = [0, 2, 4, 8];
@@ -22,6 +23,7 @@ const fn table() -> [u16; 256] {
     table
 }
 
+#[cfg_attr(called, inline(never))]
 pub fn checksum(bytes: &[u8]) -> u16 {
     bytes.iter().fold(0xffff, |register, &byte| register << 8 ^ TABLE[(register >> 8 ^ byte as u16) as usize])
 }
@@ -44,6 +46,7 @@ fn stands(capture: &[u8], place: usize) -> Option<usize> {
     (checksum(&whole[..n + 8]) == word(whole, n + 8)).then_some(n)
 }
 
+#[cfg_attr(called, inline(never))]
 pub fn find(capture: &[u8]) -> Result<usize, u8> {
     if capture.len() > 65_536 {
         return Err(1);
@@ -51,6 +54,7 @@ pub fn find(capture: &[u8]) -> Result<usize, u8> {
     (0..capture.len()).find(|&place| stands(capture, place).is_some()).ok_or(20)
 }
 
+#[cfg_attr(called, inline(never))]
 pub fn write_packet(buffer: &mut [u8], apid: u16, data: &[u8]) -> Result<usize, u8> {
     let n = data.len();
     if n > 8187 {
@@ -66,6 +70,7 @@ pub fn write_packet(buffer: &mut [u8], apid: u16, data: &[u8]) -> Result<usize, 
     Ok(n + 10)
 }
 
+#[cfg_attr(called, inline(never))]
 pub fn read_message(bytes: &[u8]) -> Result<(u16, u8, u64, usize), u8> {
     if bytes.len() < 4 {
         return Err(5);
@@ -84,6 +89,7 @@ pub fn read_message(bytes: &[u8]) -> Result<(u16, u8, u64, usize), u8> {
     Ok((head & 0x3fff, tag as u8, value, size + 6))
 }
 
+#[cfg_attr(called, inline(never))]
 pub fn write_message(buffer: &mut [u8], address: u16, tag: u8, value: u64) -> Result<usize, u8> {
     if address > 0x3fff || tag > 3 {
         return Err(7);
@@ -124,6 +130,7 @@ fn code(value: i32, drop: u8) -> Result<(u64, u32), u8> {
     Ok((front << sent | (m ^ 1 << k) >> (k - sent), j + 4 + sent))
 }
 
+#[cfg_attr(called, inline(never))]
 pub fn pack(buffer: &mut [u8], at: u64, value: i32, drop: u8) -> Result<u64, u8> {
     let (bits, length) = code(value, drop)?;
     let end = at.checked_add(length as u64).filter(|&end| end <= 1 << 63 && end <= 8 * buffer.len() as u64).ok_or(3)?;
@@ -157,6 +164,7 @@ fn field(bytes: &[u8], at: &mut u64, count: u64) -> Result<u64, u8> {
     Ok(value)
 }
 
+#[cfg_attr(called, inline(never))]
 pub fn unpack(bytes: &[u8], at: u64, drop: u8) -> Result<(i32, u64), u8> {
     if !matches!(drop, 0 | 3) {
         return Err(8);
@@ -216,6 +224,7 @@ impl Histogram {
         Histogram { memory: vec![0; words], upper: false, kept: None }
     }
 
+    #[cfg_attr(called, inline(never))]
     pub fn clear_all(&mut self) {
         self.memory.fill(0);
         self.upper = false;
@@ -228,6 +237,7 @@ impl Histogram {
         if self.upper { (upper, lower) } else { (lower, upper) }
     }
 
+    #[cfg_attr(called, inline(never))]
     pub fn increment(&mut self, address: u32) -> Result<(), u8> {
         let word = self.pages().0.get_mut(address as usize).ok_or(14)?;
         match *word {
@@ -240,10 +250,12 @@ impl Histogram {
         }
     }
 
+    #[cfg_attr(called, inline(never))]
     pub fn flip(&mut self) {
         self.upper = !self.upper;
     }
 
+    #[cfg_attr(called, inline(never))]
     pub fn ask(&mut self, number: u16, window: Window) -> Result<(u64, bool), u8> {
         match self.kept {
             Some((last, kept, sum)) if last == number => return if kept == window { Ok((sum, true)) } else { Err(18) },
