@@ -20,12 +20,12 @@ use Rattle.stored.specs.Answers.{restoredPaper}
 use Rattle.stored.specs.Meaning.{stateOf, storeLeaves}
 use Rattle.stored.specs.Promise.{RestorePromise, StorePromise}
 use Rattle.stored.specs.declared.Restored.{Restored}
-use Rattle.plavotesk.specs.HistogramMeaning.{Leaves, againOf, askLeaves, exported, flipLeaves, incrementLeaves, left, openLeaves, openedAnswer, openedWords, refuse, sumOf}
+use Rattle.plavotesk.specs.HistogramMeaning.{Leaves, againOf, askLeaves, exported, flipLeaves, incrementLeaves, openLeaves, openedAnswer, openedWords, refuse, storing, sumOf}
 use Rattle.plavotesk.specs.HistogramPromise.{AskPromise, FlipPromise, IncrementPromise, OpenPromise}
 
 -- a call on words that hold a state is the library's call on that state
 held : (P : Leaves → Type 0) (means : State → Outcome) (m w : List ℕ) (r : Restored) (s : State) → RestorePromise w r → r ≡ Restored.State s
-    → P (left w (means s)) → P (exported (stateOf w) means m w)
+    → P (storing w (means s)) → P (exported (stateOf w) means m w)
 held P means m w r s p e = subst (λ (x : Paper State). P (exported x means m w)) (sym (ap restoredPaper e) ∙ p .answer)
 
 -- a call on words that hold no state is refused by 13
@@ -56,12 +56,12 @@ increment-none m w address r p e =
 
 -- a flip on a state, and the state after it stored
 pub flipped : (m w : List ℕ) (s : State) (made : Flipped) (n : ℕ) (w′ : List ℕ) → histogram-promise.FlipPromise m s made
-    → StorePromise w (made .state) w′ → n ≡ numberOf (flipPaper (made .answer)) → FlipPromise (left w (flipMeans m s)) n w′
+    → StorePromise w (made .state) w′ → n ≡ numberOf (flipPaper (made .answer)) → FlipPromise (storing w (flipMeans m s)) n w′
 flipped m w s made n w′ p k q = record { number = q ∙ ap numberOf (p .answer); words = k .memory ∙ ap (storeLeaves w) (p .state) }
 
 -- a flip on words that hold a state
 pub flip-held : (m w : List ℕ) (r : Restored) (s : State) (n : ℕ) (w′ : List ℕ) → RestorePromise w r → r ≡ Restored.State s
-    → FlipPromise (left w (flipMeans m s)) n w′ → FlipPromise (flipLeaves m w) n w′
+    → FlipPromise (storing w (flipMeans m s)) n w′ → FlipPromise (flipLeaves m w) n w′
 unfolding flipLeaves
 flip-held m w r s n w′ p e q = held (λ (o : Leaves). FlipPromise o n w′) (λ t. flipMeans m t) m w r s p e q
 
@@ -74,7 +74,7 @@ flip-none m w r p e = none (λ (o : Leaves). FlipPromise o 13 w) (λ t. flipMean
 pub asked : (m w : List ℕ) (s : State) (number : ℕ) (window : Window) (made : Asked) (sum again n : ℕ) (m′ w′ : List ℕ) (sum′ again′ : ℕ)
     → histogram-promise.AskPromise m s number window made m′ → StorePromise w (made .state) w′ → sum′ ≡ sumOf (askPaper (made .answer)) sum
     → again′ ≡ againOf (askPaper (made .answer)) again → n ≡ numberOf (askPaper (made .answer))
-    → AskPromise (left w (askMeans m s number window)) sum again n m′ w′ sum′ again′
+    → AskPromise (storing w (askMeans m s number window)) sum again n m′ w′ sum′ again′
 asked m w s number window made sum again n m′ w′ sum′ again′ p k h g q =
     record {
       number = q ∙ ap numberOf (p .answer);
@@ -87,12 +87,12 @@ asked m w s number window made sum again n m′ w′ sum′ again′ p k h g q =
 -- an ask on words that hold a state
 pub ask-held : (m w : List ℕ) (number : ℕ) (window wanted : Window) (r : Restored) (s : State) (sum again n : ℕ) (m′ w′ : List ℕ) (sum′ again′ : ℕ)
     → RestorePromise w r → r ≡ Restored.State s → window ≡ wanted
-    → AskPromise (left w (askMeans m s number window)) sum again n m′ w′ sum′ again′
+    → AskPromise (storing w (askMeans m s number window)) sum again n m′ w′ sum′ again′
     → AskPromise (askLeaves m w number wanted) sum again n m′ w′ sum′ again′
 unfolding askLeaves
 ask-held m w number window wanted r s sum again n m′ w′ sum′ again′ p e i q =
     held (λ (o : Leaves). AskPromise o sum again n m′ w′ sum′ again′) (λ t. askMeans m t number wanted) m w r s p e
-    (subst (λ (x : Window). AskPromise (left w (askMeans m s number x)) sum again n m′ w′ sum′ again′) i q)
+    (subst (λ (x : Window). AskPromise (storing w (askMeans m s number x)) sum again n m′ w′ sum′ again′) i q)
 
 -- an ask on words that hold none
 pub ask-none : (m w : List ℕ) (number : ℕ) (wanted : Window) (r : Restored) (sum again : ℕ) → RestorePromise w r → r ≡ Restored.NoState

@@ -24,12 +24,12 @@ abbrev pub refuse : ℕ → List ℕ → List ℕ → Leaves
 refuse n memory words = record { answer = refused n; memory = memory; words = words }
 
 -- a call's outcome with its state put into the words
-abbrev pub left : List ℕ → Outcome → Leaves
-left words o = record { answer = o .answer; memory = o .memory; words = storeLeaves words (o .state) }
+abbrev pub storing : List ℕ → Outcome → Leaves
+storing words o = record { answer = o .answer; memory = o .memory; words = storeLeaves words (o .state) }
 
 -- a call on the state that the words hold; where they hold none it is refused, and all stays
 abbrev pub exported : Paper State → (State → Outcome) → List ℕ → List ℕ → Leaves
-exported (accepted s) means memory words = left words (means s)
+exported (accepted s) means memory words = storing words (means s)
 exported (refused n) means memory words = refuse n memory words
 exported (refusedWith n x) means memory words = refuse n memory words
 

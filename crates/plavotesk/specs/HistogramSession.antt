@@ -20,7 +20,7 @@ use Rattle.histogram.specs.declared.turn.Turn.{Turn}
 use Rattle.histogram.specs.declared.turn.Turn.the-variants.{NewAsk, LastAsk, OtherWindow, OutOfTurn}
 use Rattle.stored.specs.Forms.{AskFits, KeptFits, held-fits, holds, store-restores}
 use Rattle.stored.specs.Meaning.{stateOf, storeLeaves}
-use Rattle.plavotesk.specs.HistogramMeaning.{Leaves, askLeaves, exported, flipLeaves, incrementLeaves, left, openLeaves, openedAnswer, openedWords}
+use Rattle.plavotesk.specs.HistogramMeaning.{Leaves, askLeaves, exported, flipLeaves, incrementLeaves, openLeaves, openedAnswer, openedWords, storing}
 
 -- what a caller lends
 pub record Lent : Type 0 where
@@ -105,21 +105,21 @@ ask-fits m s number w f g =
     (λ h. f)
 
 -- on words that hold a state a call leaves what the library's call on that state does
-held-leaves : (means : State → Outcome) (m w : List ℕ) (s : State) → stateOf w ≡ accepted s → exported (stateOf w) means m w ≡ left w (means s)
+held-leaves : (means : State → Outcome) (m w : List ℕ) (s : State) → stateOf w ≡ accepted s → exported (stateOf w) means m w ≡ storing w (means s)
 held-leaves means m w s e = ap (λ (p : Paper State). exported p means m w) e
 
 -- on the library's own memory and state an exported call leaves what the library's call does
-pub call-same : (x : Lent) (l : Ledger) (c : Call) → Same x l → callLeaves x c ≡ left (x .words) (answered l c)
+pub call-same : (x : Lent) (l : Ledger) (c : Call) → Same x l → callLeaves x c ≡ storing (x .words) (answered l c)
 unfolding incrementLeaves flipLeaves askLeaves
 call-same x l (increment address) p =
     held-leaves (λ s. incrementMeans (x .memory) s address) (x .memory) (x .words) (l .state) (p .state)
-    ∙ ap (λ (m : List ℕ). left (x .words) (incrementMeans m (l .state) address)) (p .memory)
+    ∙ ap (λ (m : List ℕ). storing (x .words) (incrementMeans m (l .state) address)) (p .memory)
 call-same x l flip p =
     held-leaves (λ s. flipMeans (x .memory) s) (x .memory) (x .words) (l .state) (p .state)
-    ∙ ap (λ (m : List ℕ). left (x .words) (flipMeans m (l .state))) (p .memory)
+    ∙ ap (λ (m : List ℕ). storing (x .words) (flipMeans m (l .state))) (p .memory)
 call-same x l (ask number w) p =
     held-leaves (λ s. askMeans (x .memory) s number w) (x .memory) (x .words) (l .state) (p .state)
-    ∙ ap (λ (m : List ℕ). left (x .words) (askMeans m (l .state) number w)) (p .memory)
+    ∙ ap (λ (m : List ℕ). storing (x .words) (askMeans m (l .state) number w)) (p .memory)
 
 -- so it answers what the library's call answers
 pub answer-same : (x : Lent) (l : Ledger) (c : Call) → Same x l → callLeaves x c .answer ≡ answered l c .answer

@@ -9,7 +9,7 @@ ghost use mathlib.Core.Path.{_≡_};
 ghost use Rattle.ground.specs.Paper.{numberOf};
 ghost use Rattle.histogram.specs.Answers.{askPaper, openedPaper};
 ghost use Rattle.histogram.specs.Meaning.{askMeans, flipMeans, incrementMeans};
-ghost use Rattle.plavotesk.specs.HistogramMeaning.{againOf, askLeaves, flipLeaves, incrementLeaves, left, openedWords, openLeaves, sumOf, windowOf};
+ghost use Rattle.plavotesk.specs.HistogramMeaning.{againOf, askLeaves, flipLeaves, incrementLeaves, openedWords, openLeaves, storing, sumOf, windowOf};
 ghost use Rattle.plavotesk.specs.HistogramPromise.{AskPromise, FlipPromise, IncrementPromise, OpenPromise};
 
 // The refusal of lent words that hold no state.
@@ -87,7 +87,7 @@ fn increment(memory: &mut [u32], held: State, address: u32) -> u8
 
 // A flip with the state that the words held, and the state after it in its place.
 fn flip(memory: &[u32], words: &mut [u64], held: State) -> u8
-    ensures { λ r. ⌜ FlipPromise (left (now (words .entry)) (flipMeans (now (memory .entry)) held)) r (now (words .exit)) ⌝ }
+    ensures { λ r. ⌜ FlipPromise (storing (now (words .entry)) (flipMeans (now (memory .entry)) held)) r (now (words .exit)) ⌝ }
 {
     let made = histogram::flip(memory, held);
     let turned = made.state;
@@ -106,7 +106,7 @@ fn ask(
     sum: &mut u64,
     again: &mut u8,
 ) -> u8
-    ensures { λ r. ⌜ AskPromise (left (now (words .entry)) (askMeans (now (memory .entry)) held number asked)) (now (sum .entry)) (now (again .entry)) r (now (memory .exit)) (now (words .exit)) (now (sum .exit)) (now (again .exit)) ⌝ }
+    ensures { λ r. ⌜ AskPromise (storing (now (words .entry)) (askMeans (now (memory .entry)) held number asked)) (now (sum .entry)) (now (again .entry)) r (now (memory .exit)) (now (words .exit)) (now (sum .exit)) (now (again .exit)) ⌝ }
 {
     let made = histogram::ask(memory, held, number, asked);
     let after = made.state;

@@ -1,18 +1,6 @@
-// Soaks a histogram memory: plays a script of calls through the library's public calls alone, keeps the ledger, and after every call
-// checks that held plus cleared equals accepted, and that the last accepted ask, asked again, answers its sum and changes nothing.
-//
-// The script is text on standard input, at most 65,536 bytes of it. Each call is a letter and its numbers, in decimal, with spaces before each:
-//   o WORDS                                          open a memory of so many words (2N), at most 524,288; what comes up to the next o is played on it
-//   i ADDRESS                                        increment
-//   f                                                flip
-//   a NUMBER ADDRESS XSIZE YSIZE YSTRIDE CLEAR       ask; CLEAR is 1 to clear, 0 to keep
-// Any other byte is passed over, and so is what comes before the first o or after an opening that is refused. A number too large for its place counts
-// modulo that place's range.
-//
-// A line is written for each call, and the ledger at the end of each opened memory:
-//   open WORDS accepted            increment ADDRESS accepted      flip accepted      ask NUMBER new SUM
-//   open WORDS refused 13          increment ADDRESS refused R     flip refused 13    ask NUMBER again SUM      ask NUMBER refused R
-//   held H cleared C accepted A
+// Soaks a histogram memory: plays a script of calls from standard input through the library's public calls, writes a line for each
+// call, and checks after every call that held plus cleared equals accepted, and that the last accepted ask, asked again, answers
+// its sum and changes nothing.
 mod audit;
 mod book;
 mod line;
