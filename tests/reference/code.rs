@@ -267,9 +267,8 @@ fn unpack_block(drop: u8, at: u64, bytes: &[u8]) -> Vec<u8> {
     at_block(b'u', drop, at, &[bytes])
 }
 
-/// The stored vectors of packing and unpacking: all of ±5,000 and more at every bit offset, both ends, every short buffer,
-/// hostile positions, all bit patterns of up to 16 bits.
-pub fn blocks(random: &mut Random, all: &mut Vec<Vec<u8>>) {
+/// All of ±5,000 and more at every bit offset, both ends, and all bit patterns of up to 16 bits.
+fn whole_ranges(random: &mut Random, all: &mut Vec<Vec<u8>>) {
     let ends = [33_554_431 - 128, -33_554_431 - 128, i32::MAX - 255, i32::MIN];
     for drop in [0, 3] {
         for at in 0..8 {
@@ -283,6 +282,10 @@ pub fn blocks(random: &mut Random, all: &mut Vec<Vec<u8>>) {
             }
         }
     }
+}
+
+/// Numbers of every size, written, read, and read cut short by a byte.
+fn many_numbers(random: &mut Random, all: &mut Vec<Vec<u8>>) {
     let mut numbers = vec![0, 1, -1, 3, 4, 5, -16, 31, 32, 100, -1000];
     numbers.extend([33_554_431, -33_554_431, 33_554_432, -33_554_432, i32::MAX, i32::MIN]);
     for k in 5..26 {
@@ -303,6 +306,10 @@ pub fn blocks(random: &mut Random, all: &mut Vec<Vec<u8>>) {
             }
         }
     }
+}
+
+/// Every short buffer, hostile positions and drops, and bits that nobody packed.
+fn hostile(random: &mut Random, all: &mut Vec<Vec<u8>>) {
     for v in [0, 1, -16, 32, 100, 65_535, -33_554_431] {
         for drop in [0, 3, 1, 255] {
             for at in [0, 1, 7, 8, 15, 16, 31, 1 << 40, (1 << 63) - 1, 1 << 63, u64::MAX - 7, u64::MAX] {
@@ -329,6 +336,13 @@ pub fn blocks(random: &mut Random, all: &mut Vec<Vec<u8>>) {
             all.push(unpack_block(drop, at, &[]));
         }
     }
+}
+
+/// The stored vectors of packing and unpacking.
+pub fn blocks(random: &mut Random, all: &mut Vec<Vec<u8>>) {
+    whole_ranges(random, all);
+    many_numbers(random, all);
+    hostile(random, all);
 }
 
 /// The stored vectors of readings and rates: all codes of up to 16 bits at all eight levels, some of them line by line, and

@@ -153,75 +153,85 @@ fn calls(random: &mut Random) -> Vec<Call> {
     all
 }
 
-/// The script as the program `soak` reads it, and what it must print.
-pub fn script() -> (String, String) {
-    let mut random = Random::new(3);
-    let mut input = String::new();
-    let mut output = String::new();
-    let mut memory = Vec::new();
-    let mut state: Option<State> = None;
-    let (mut cleared, mut accepted) = (0, 0);
-    let ledger = |memory: &[u32], state: &Option<State>, cleared: u64, accepted: u64, output: &mut String| {
-        if state.is_some() {
-            let held: u64 = memory.iter().map(|&word| word as u64).sum();
-            assert_eq!(held + cleared, accepted);
-            output.push_str(&format!("held {held} cleared {cleared} accepted {accepted}\n"));
-        }
-    };
-    for call in calls(&mut random) {
-        match call {
-            Call::Open(words) => {
-                ledger(&memory, &state, cleared, accepted, &mut output);
-                (cleared, accepted) = (0, 0);
-                memory = vec![7; words];
-                input.push_str(&format!("o {words}\n"));
-                match open(&mut memory) {
-                    Ok(fresh) => {
-                        state = Some(fresh);
-                        output.push_str(&format!("open {words} accepted\n"));
-                    }
-                    Err(number) => {
-                        state = None;
-                        output.push_str(&format!("open {words} refused {number}\n"));
-                    }
-                }
-            }
-            Call::Increment(address) => {
-                input.push_str(&format!("i {address}\n"));
-                let Some(state) = &state else { continue };
-                match increment(&mut memory, state, address) {
-                    Ok(()) => {
-                        accepted += 1;
-                        output.push_str(&format!("increment {address} accepted\n"));
-                    }
-                    Err(number) => output.push_str(&format!("increment {address} refused {number}\n")),
-                }
-            }
-            Call::Flip => {
-                input.push_str("f\n");
-                let Some(state) = &mut state else { continue };
-                flip(&memory, state).unwrap();
-                output.push_str("flip accepted\n");
-            }
-            Call::Ask(number, w) => {
-                let clear = w.clear as u8;
-                input.push_str(&format!("a {number} {} {} {} {} {clear}\n", w.address, w.xsize, w.ysize, w.ystride));
-                let Some(state) = &mut state else { continue };
-                match ask(&mut memory, state, number, w) {
-                    Ok(Asked::New(sum)) => {
-                        if w.clear {
-                            cleared += sum;
-                        }
-                        output.push_str(&format!("ask {number} new {sum}\n"));
-                    }
-                    Ok(Asked::Again(sum)) => output.push_str(&format!("ask {number} again {sum}\n")),
-                    Err(refusal) => output.push_str(&format!("ask {number} refused {refusal}\n")),
-                }
-            }
+/// A script being played: what `soak` reads, what it must print, and the ledger of the memory that is open.
+#[derive(Default)]
+struct Play {
+    input: String,
+    output: String,
+    memory: Vec<u32>,
+    state: Option<State>,
+    cleared: u64,
+    accepted: u64,
+}
+
+impl Play {
+    /// What a call is answered: its values, or the refusal.
+    fn says(&mut self, call: &str, answer: Result<String, u8>) {
+        let answer = answer.unwrap_or_else(|number| format!("refused {number}"));
+        self.output.push_str(&format!("{call} {answer}\n"));
+    }
+
+    /// The ledger of the memory that is open.
+    fn close(&mut self) {
+        if self.state.is_some() {
+            let held: u64 = self.memory.iter().map(|&word| word as u64).sum();
+            assert_eq!(held + self.cleared, self.accepted);
+            self.output.push_str(&format!("held {held} cleared {} accepted {}\n", self.cleared, self.accepted));
         }
     }
-    ledger(&memory, &state, cleared, accepted, &mut output);
-    (input, output)
+
+    fn open(&mut self, words: usize) {
+        self.close();
+        self.input.push_str(&format!("o {words}\n"));
+        (self.cleared, self.accepted, self.memory) = (0, 0, vec![7; words]);
+        let answer = open(&mut self.memory);
+        self.state = answer.as_ref().ok().copied();
+        self.says(&format!("open {words}"), answer.map(|_| "accepted".into()));
+    }
+
+    fn increment(&mut self, address: u32) {
+        self.input.push_str(&format!("i {address}\n"));
+        let Some(state) = &self.state else { return };
+        let answer = increment(&mut self.memory, state, address);
+        self.accepted += answer.is_ok() as u64;
+        self.says(&format!("increment {address}"), answer.map(|()| "accepted".into()));
+    }
+
+    fn flip(&mut self) {
+        self.input.push_str("f\n");
+        let Some(state) = &mut self.state else { return };
+        let answer = flip(&self.memory, state);
+        self.says("flip", answer.map(|()| "accepted".into()));
+    }
+
+    fn ask(&mut self, number: u16, w: Window) {
+        let clear = w.clear as u8;
+        self.input.push_str(&format!("a {number} {} {} {} {} {clear}\n", w.address, w.xsize, w.ysize, w.ystride));
+        let Some(state) = &mut self.state else { return };
+        let answer = ask(&mut self.memory, state, number, w).map(|asked| match asked {
+            Asked::New(sum) => {
+                self.cleared += if w.clear { sum } else { 0 };
+                format!("new {sum}")
+            }
+            Asked::Again(sum) => format!("again {sum}"),
+        });
+        self.says(&format!("ask {number}"), answer);
+    }
+}
+
+/// The script as the program `soak` reads it, and what it must print.
+pub fn script() -> (String, String) {
+    let mut play = Play::default();
+    for call in calls(&mut Random::new(3)) {
+        match call {
+            Call::Open(words) => play.open(words),
+            Call::Increment(address) => play.increment(address),
+            Call::Flip => play.flip(),
+            Call::Ask(number, window) => play.ask(number, window),
+        }
+    }
+    play.close();
+    (play.input, play.output)
 }
 
 /// Numbers of a block, one after the other.
@@ -245,6 +255,25 @@ impl Given<'_> {
     }
 }
 
+/// A call on a memory and a state: what it answers, in words.
+fn called(given: &mut Given, memory: &mut [u32], state: &mut State) -> Result<String, u8> {
+    match given.take(1) as u8 {
+        b'o' => open(memory).map(|fresh| {
+            *state = fresh;
+            String::new()
+        }),
+        b'i' => increment(memory, state, given.take(4) as u32).map(|()| String::new()),
+        b'f' => flip(memory, state).map(|()| String::new()),
+        _ => {
+            let number = given.take(2) as u16;
+            ask(memory, state, number, given.window()).map(|asked| match asked {
+                Asked::New(sum) => format!(" 0 {sum}"),
+                Asked::Again(sum) => format!(" 1 {sum}"),
+            })
+        }
+    }
+}
+
 /// The line of one call on a memory and a state that a caller made up. Given: the memory's length, pokes, the state, the call.
 pub fn call_line(given: &[u8]) -> String {
     let mut given = Given(given);
@@ -259,22 +288,7 @@ pub fn call_line(given: &[u8]) -> String {
     let (words, upper_active, kept) = (given.take(4) as usize, given.take(1) != 0, given.take(1) != 0);
     let last = (given.take(2) as u16, given.window(), given.take(8));
     let mut state = State { words, upper_active, kept: kept.then_some(last) };
-    let answer = match given.take(1) as u8 {
-        b'o' => open(&mut memory).map(|fresh| {
-            state = fresh;
-            String::new()
-        }),
-        b'i' => increment(&mut memory, &state, given.take(4) as u32).map(|()| String::new()),
-        b'f' => flip(&memory, &mut state).map(|()| String::new()),
-        _ => {
-            let number = given.take(2) as u16;
-            ask(&mut memory, &mut state, number, given.window()).map(|asked| match asked {
-                Asked::New(sum) => format!(" 0 {sum}"),
-                Asked::Again(sum) => format!(" 1 {sum}"),
-            })
-        }
-    };
-    let answer = match answer {
+    let answer = match called(&mut given, &mut memory, &mut state) {
         Ok(values) => format!("0{values}"),
         Err(number) => format!("{number}"),
     };
@@ -326,48 +340,60 @@ fn block(words: u32, pokes: &[(u32, u32)], state: &State, call: &Call) -> Vec<u8
     block
 }
 
+/// A window near the front of a page of n words.
+fn near(random: &mut Random, n: u64) -> Window {
+    Window {
+        address: random.below(n + 1) as u32,
+        xsize: random.below(n.min(200) / 2 + 1) as u8,
+        ysize: random.below(4) as u8,
+        ystride: random.below(n / 3 + 1) as u16,
+        clear: random.below(2) == 0,
+    }
+}
+
+/// A call on a page of n words: an ask, more often than not, with the number last, next or another.
+fn some_call(random: &mut Random, n: u64, last: u16, kept: Window) -> Call {
+    match random.below(8) {
+        0 => Call::Open(0),
+        1 | 2 => Call::Increment(random.below(n + 2) as u32),
+        3 => Call::Flip,
+        _ => {
+            let number = match random.below(6) {
+                0 => last,
+                1 => random.next() as u16,
+                2 => 1,
+                _ => last.wrapping_add(1),
+            };
+            let window = if random.below(3) == 0 { kept } else { near(random, n) };
+            Call::Ask(number, window)
+        }
+    }
+}
+
+/// A call on a memory of so many words, some of them poked, and on a state that may be made up.
+fn some_block(random: &mut Random, words: u32) -> Vec<u8> {
+    let n = (words / 2).max(1) as u64;
+    let values = [0, 1, 7, FULL - 1, FULL, FULL + 1, u32::MAX];
+    let many = if random.below(2) == 0 { 4 } else { 2 };
+    let pokes: Vec<(u32, u32)> = (0..random.below(12))
+        .map(|_| (random.below(words as u64 + 1) as u32, values[random.below(many + 3) as usize]))
+        .collect();
+    let last = [0u16, 1, 2, 65_534, 65_535][random.below(5) as usize];
+    let kept = near(random, n);
+    let state = State {
+        words: if random.below(20) == 0 { random.below(1030) as usize } else { words as usize },
+        upper_active: random.below(2) == 0,
+        kept: (random.below(4) > 0).then_some((last, kept, random.next() >> random.below(64))),
+    };
+    block(words, &pokes, &state, &some_call(random, n, last, kept))
+}
+
 /// The stored vectors: every refusal and every order of two, words at and above the full mark, windows that overlap themselves,
 /// numbers around 65535, states that no call made.
 pub fn blocks(random: &mut Random, all: &mut Vec<Vec<u8>>) {
-    let small = |random: &mut Random, end: u64| random.below(end);
     for words in [0u32, 1, 2, 2, 3, 4, 4, 4, 6, 6, 8, 64, 200, 1023, 1024] {
         for _ in 0..100 {
-            let n = (words / 2).max(1) as u64;
-            let values = [0, 1, 7, FULL - 1, FULL, FULL + 1, u32::MAX];
-            let many = if small(random, 2) == 0 { 4 } else { 2 };
-            let pokes: Vec<(u32, u32)> = (0..small(random, 12))
-                .map(|_| (random.below(words as u64 + 1) as u32, values[random.below(many + 3) as usize]))
-                .collect();
-            let window = |random: &mut Random| Window {
-                address: random.below(n + 1) as u32,
-                xsize: random.below(n.min(200) / 2 + 1) as u8,
-                ysize: random.below(4) as u8,
-                ystride: random.below(n / 3 + 1) as u16,
-                clear: random.below(2) == 0,
-            };
-            let last = [0u16, 1, 2, 65_534, 65_535][random.below(5) as usize];
-            let kept = window(random);
-            let state = State {
-                words: if small(random, 20) == 0 { random.below(1030) as usize } else { words as usize },
-                upper_active: small(random, 2) == 0,
-                kept: (small(random, 4) > 0).then_some((last, kept, random.next() >> random.below(64))),
-            };
-            let call = match small(random, 8) {
-                0 => Call::Open(0),
-                1 | 2 => Call::Increment(random.below(n + 2) as u32),
-                3 => Call::Flip,
-                _ => {
-                    let number = match small(random, 6) {
-                        0 => last,
-                        1 => random.next() as u16,
-                        2 => 1,
-                        _ => last.wrapping_add(1),
-                    };
-                    let w = if small(random, 3) == 0 { kept } else { window(random) };
-                    Call::Ask(number, w)
-                }
-            };
-            all.push(block(words, &pokes, &state, &call));
+            all.push(some_block(random, words));
         }
     }
     // a repeat whose window no longer fits, and one on words above the mark: it meets only 13

@@ -133,9 +133,8 @@ fn write_block(length: u32, filling: u8, apid: u16, data: &[u8]) -> Vec<u8> {
     [b"w", &length.to_be_bytes()[..], &[filling], &apid.to_be_bytes()[..], data].concat()
 }
 
-/// Captures that the finder is tried on, each with its name.
-fn captures(random: &mut Random) -> Vec<Vec<u8>> {
-    let mut all = vec![vec![], vec![0xbe], vec![0xbe, 0xba, 0xca, 0xfe]];
+/// Packets of several sizes: whole, in noise, cut by the end, and damaged in each field.
+fn packets(random: &mut Random, all: &mut Vec<Vec<u8>>) {
     for n in [0, 1, 2, 5, 100, 8187] {
         let data = random.bytes(n);
         let packet = bytes(random.next() as u16, &data);
@@ -153,6 +152,12 @@ fn captures(random: &mut Random) -> Vec<Vec<u8>> {
             all.push([&damaged[..], &packet].concat());
         }
     }
+}
+
+/// Captures that the finder is tried on.
+fn captures(random: &mut Random) -> Vec<Vec<u8>> {
+    let mut all = vec![vec![], vec![0xbe], vec![0xbe, 0xba, 0xca, 0xfe]];
+    packets(random, &mut all);
     // a mark inside data, and a good packet inside a damaged one
     let inner = bytes(7, b"inside");
     let outer = bytes(9, &[&random.bytes(20)[..], &inner, &random.bytes(20)].concat());
@@ -172,7 +177,7 @@ fn captures(random: &mut Random) -> Vec<Vec<u8>> {
         forged.extend(bytes(1, b"after"));
         all.push(forged);
     }
-    // packets back to back, and marks everywhere
+    // packets back to back, marks everywhere, and the longest captures
     all.push([bytes(1, b"a"), bytes(2, b"bc"), bytes(3, b"")].concat());
     all.push([0xbe, 0xba, 0xca, 0xfe].repeat(600));
     all.push([&random.bytes(3000)[..], &bytes(77, &random.bytes(500))].concat());
