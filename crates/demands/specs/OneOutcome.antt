@@ -38,4 +38,4 @@ pub use Rattle.plavotesk.specs.OneOutcome.{code-pack-one as plv-code-pack-one, 
 -- the C interface: formats and cadence; the checksum and the counts of floats have the promises above
 pub use Rattle.plavotesk.specs.OneOutcome.{float16-code-one as plv-float16-code-one, float8-code-one as plv-float8-code-one, int24-code-one as plv-int24-code-one, int24-count-one as plv-int24-count-one, level-seconds-one as plv-level-seconds-one, second-beginning-one as plv-second-beginning-one, second-ending-one as plv-second-ending-one}
 -- the C interface: histogram memory
-pub use Rattle.plavotesk.specs.HistogramOneOutcome.{open-one as plv-histogram-open-one, increment-one as plv-histogram-increment-one, flip-one as plv-histogram-flip-one, ask-one as plv-histogram-ask-one}
+pub use Rattle.lent.specs.OneOutcome.{open-one as plv-histogram-open-one, increment-one as plv-histogram-increment-one, flip-one as plv-histogram-flip-one, ask-one as plv-histogram-ask-one}

@@ -2,4 +2,3 @@ pub mod Saying
 pub mod Parts
 pub mod Whole
 pub mod Leaving
-mod HistogramCalls

@@ -20,8 +20,8 @@ use Rattle.stored.specs.Answers.{restoredPaper}
 use Rattle.stored.specs.Meaning.{stateOf, storeLeaves}
 use Rattle.stored.specs.Promise.{RestorePromise, StorePromise}
 use Rattle.stored.specs.declared.Restored.{Restored}
-use Rattle.plavotesk.specs.HistogramMeaning.{Leaves, againOf, askLeaves, exported, flipLeaves, incrementLeaves, openLeaves, openedAnswer, openedWords, refuse, storing, sumOf}
-use Rattle.plavotesk.specs.HistogramPromise.{AskPromise, FlipPromise, IncrementPromise, OpenPromise}
+use Rattle.lent.specs.Meaning.{Leaves, againOf, askLeaves, exported, flipLeaves, incrementLeaves, openLeaves, openedAnswer, openedWords, refuse, storing, sumOf}
+use Rattle.lent.specs.Promise.{AskPromise, FlipPromise, IncrementPromise, OpenPromise}
 
 -- a call on words that hold a state is the library's call on that state
 held : (P : Leaves → Type 0) (means : State → Outcome) (m w : List ℕ) (r : Restored) (s : State) → RestorePromise w r → r ≡ Restored.State s

@@ -1,9 +1,9 @@
--- `plavotesk::histograms::store_opened` meets its contract. The opened state stored, or the words as they were.
+-- `lent::store_opened` meets its contract. The opened state stored, or the words as they were.
 -- Assumes nothing.
 use borrow.Author.Needs.{needs}
-use Rattle.plavotesk.proofs.HistogramCalls.{opened-stored}
-use Rattle.plavotesk.proofs.histograms.store_opened.Statement.{statement}
-use Rattle.plavotesk.proofs.histograms.store_opened.Tie as tie
+use Rattle.lent.proofs.Calls.{opened-stored}
+use Rattle.lent.proofs.store_opened.Statement.{statement}
+use Rattle.lent.proofs.store_opened.Tie as tie
 
 enum-known-answer : tie.Need-enum-known-answer
 enum-known-answer c = search needs

@@ -1,9 +1,9 @@
--- `plavotesk::histograms::flip` meets its contract. What the library promises, and the state after it stored.
+-- `lent::flip_held` meets its contract. What the library promises, and the state after it stored.
 -- Assumes nothing.
 use borrow.Author.Needs.{needs}
-use Rattle.plavotesk.proofs.HistogramCalls.{flipped}
-use Rattle.plavotesk.proofs.histograms.flip.Statement.{statement}
-use Rattle.plavotesk.proofs.histograms.flip.Tie as tie
+use Rattle.lent.proofs.Calls.{flipped}
+use Rattle.lent.proofs.flip_held.Statement.{statement}
+use Rattle.lent.proofs.flip_held.Tie as tie
 
 flip-requires : tie.Need-flip-requires
 flip-requires c κs = search needs
@@ -22,6 +22,6 @@ returns c =
     flipped _ _ _ _ _ _ (c .before .before .before .before .before .before .flip .ensures)
     (c .before .before .before .store .ensures) (c .flip-number .ensures)
 
-pub flip-spec : {M : Type 1} → statement M
-flip-spec =
+pub flip-held-spec : {M : Type 1} → statement M
+flip-held-spec =
     tie.close (tie.spec flip-requires store-requires flip-number-requires same-length returns)

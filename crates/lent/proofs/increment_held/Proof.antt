@@ -1,9 +1,9 @@
--- `plavotesk::histograms::increment` meets its contract. What the library promises, and its number.
+-- `lent::increment_held` meets its contract. What the library promises, and its number.
 -- Assumes nothing.
 use borrow.Author.Needs.{needs}
-use Rattle.plavotesk.proofs.HistogramCalls.{incremented}
-use Rattle.plavotesk.proofs.histograms.increment.Statement.{statement}
-use Rattle.plavotesk.proofs.histograms.increment.Tie as tie
+use Rattle.lent.proofs.Calls.{incremented}
+use Rattle.lent.proofs.increment_held.Statement.{statement}
+use Rattle.lent.proofs.increment_held.Tie as tie
 
 increment-requires : tie.Need-increment-requires
 increment-requires c κs = search needs
@@ -17,6 +17,6 @@ same-length c = search needs
 returns : tie.Need-returns
 returns c = incremented _ _ _ _ _ _ (c .before .before .before .increment .ensures) (c .increment-number .ensures)
 
-pub increment-spec : {M : Type 1} → statement M
-increment-spec =
+pub increment-held-spec : {M : Type 1} → statement M
+increment-held-spec =
     tie.close (tie.spec increment-requires increment-number-requires same-length returns)

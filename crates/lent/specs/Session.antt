@@ -20,7 +20,7 @@ use Rattle.histogram.specs.declared.turn.Turn.{Turn}
 use Rattle.histogram.specs.declared.turn.Turn.the-variants.{NewAsk, LastAsk, OtherWindow, OutOfTurn}
 use Rattle.stored.specs.Forms.{AskFits, KeptFits, held-fits, holds, store-restores}
 use Rattle.stored.specs.Meaning.{stateOf, storeLeaves}
-use Rattle.plavotesk.specs.HistogramMeaning.{Leaves, askLeaves, exported, flipLeaves, incrementLeaves, openLeaves, openedAnswer, openedWords, storing}
+use Rattle.lent.specs.Meaning.{Leaves, askLeaves, exported, flipLeaves, incrementLeaves, openLeaves, openedAnswer, openedWords, storing}
 
 -- what a caller lends
 pub record Lent : Type 0 where

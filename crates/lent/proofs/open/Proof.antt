@@ -1,10 +1,10 @@
--- `plavotesk::histograms::plv_histogram_open` meets its contract. Too few words, or what the library's opening leaves.
+-- `lent::open` meets its contract. Too few words, or what the library's opening leaves.
 -- Assumes nothing.
 use native.Mathlib.Omega.{arith}
 use borrow.Author.Needs.{needs}
-use Rattle.plavotesk.proofs.HistogramCalls.{opened, open-short}
-use Rattle.plavotesk.proofs.histograms.plv_histogram_open.Statement.{statement}
-use Rattle.plavotesk.proofs.histograms.plv_histogram_open.Tie as tie
+use Rattle.lent.proofs.Calls.{opened, open-short}
+use Rattle.lent.proofs.open.Statement.{statement}
+use Rattle.lent.proofs.open.Tie as tie
 
 returns : tie.Need-returns
 returns c = open-short _ (c .before .before .before .args .state .now) (omega (arith, c .if1 .taken))
@@ -30,8 +30,8 @@ returns-2 c =
     (c .before .before .before .before .before .before .before .open .ensures) (c .before .before .before .store-opened .ensures)
     (c .open-number .ensures)
 
-pub plv-histogram-open-spec : {M : Type 1} → statement M
-plv-histogram-open-spec =
+pub open-spec : {M : Type 1} → statement M
+open-spec =
     tie.close
     (tie.spec
     returns

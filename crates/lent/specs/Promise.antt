@@ -4,7 +4,7 @@ use mathlib.Core.Path.{_≡_}
 use mathlib.Core.List.{List}
 use Prim.Native.Nat.{ℕ}
 use Rattle.ground.specs.Paper.{numberOf}
-use Rattle.plavotesk.specs.HistogramMeaning.{Leaves, againOf, sumOf}
+use Rattle.lent.specs.Meaning.{Leaves, againOf, sumOf}
 
 -- what opening promises
 pub record OpenPromise (o : Leaves) (r : ℕ) (m w : List ℕ) : Type 0 where

@@ -1,9 +1,9 @@
--- `plavotesk::histograms::plv_histogram_ask` meets its contract. By whether the words hold a state.
+-- `lent::ask` meets its contract. By whether the words hold a state.
 -- Assumes nothing.
 use borrow.Author.Needs.{needs}
-use Rattle.plavotesk.proofs.HistogramCalls.{ask-held, ask-none}
-use Rattle.plavotesk.proofs.histograms.plv_histogram_ask.Statement.{statement}
-use Rattle.plavotesk.proofs.histograms.plv_histogram_ask.Tie as tie
+use Rattle.lent.proofs.Calls.{ask-held, ask-none}
+use Rattle.lent.proofs.ask.Statement.{statement}
+use Rattle.lent.proofs.ask.Tie as tie
 
 restore-requires : tie.Need-restore-requires
 restore-requires c κs = search needs
@@ -14,8 +14,8 @@ window-requires c κs = search needs
 enum-known-restored : tie.Need-enum-known-restored
 enum-known-restored c = search needs
 
-ask-requires : tie.Need-ask-requires
-ask-requires c κs = search needs
+ask-held-requires : tie.Need-ask-held-requires
+ask-held-requires c κs = search needs
 
 enum-told : tie.Need-enum-told
 enum-told c = search needs
@@ -32,7 +32,7 @@ returns c =
     (c .before .before .before .before .before .before .before .before .before .before .before .before .before .restore .ensures)
     (c .before .before .before .before .before .before .before .before .before .before .restored .given .1)
     (c .before .before .before .before .before .before .before .before .before .before .before .before .window .ensures)
-    (c .before .before .before .before .ask .ensures)
+    (c .before .before .before .before .ask-held .ensures)
 
 same-length-3 : tie.Need-same-length-3
 same-length-3 c = search needs
@@ -40,14 +40,14 @@ same-length-3 c = search needs
 returns-2 : tie.Need-returns-2
 returns-2 c = ask-none _ _ _ _ _ _ _ (c .before .before .before .restore .ensures) (c .enum-told .given .1)
 
-pub plv-histogram-ask-spec : {M : Type 1} → statement M
-plv-histogram-ask-spec =
+pub ask-spec : {M : Type 1} → statement M
+ask-spec =
     tie.close
     (tie.spec
     restore-requires
     window-requires
     enum-known-restored
-    ask-requires
+    ask-held-requires
     enum-told
     same-length
     same-length-2

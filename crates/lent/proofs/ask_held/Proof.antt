@@ -1,9 +1,9 @@
--- `plavotesk::histograms::ask` meets its contract. What the library promises, the state after it stored, and the sum handed over.
+-- `lent::ask_held` meets its contract. What the library promises, the state after it stored, and the sum handed over.
 -- Assumes nothing.
 use borrow.Author.Needs.{needs}
-use Rattle.plavotesk.proofs.HistogramCalls.{asked}
-use Rattle.plavotesk.proofs.histograms.ask.Statement.{statement}
-use Rattle.plavotesk.proofs.histograms.ask.Tie as tie
+use Rattle.lent.proofs.Calls.{asked}
+use Rattle.lent.proofs.ask_held.Statement.{statement}
+use Rattle.lent.proofs.ask_held.Tie as tie
 
 ask-requires : tie.Need-ask-requires
 ask-requires c κs = search needs
@@ -28,8 +28,8 @@ returns c =
     asked _ _ _ _ _ _ _ _ _ _ _ _ _ (c .before .before .before .before .before .before .before .before .before .before .before .ask .ensures)
     (c .before .before .before .before .before .before .store .ensures) (c .before .hand-over .ensures .0) (c .before .hand-over .ensures .1) (c .ask-number .ensures)
 
-pub ask-spec : {M : Type 1} → statement M
-ask-spec =
+pub ask-held-spec : {M : Type 1} → statement M
+ask-held-spec =
     tie.close
     (tie.spec
     ask-requires

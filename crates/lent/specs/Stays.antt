@@ -15,8 +15,8 @@ use Rattle.histogram.specs.declared.turn.Turn.{Turn}
 use Rattle.histogram.specs.declared.turn.Turn.the-variants.{NewAsk, LastAsk, OtherWindow, OutOfTurn}
 use Rattle.stored.specs.Forms.{store-same}
 use Rattle.stored.specs.Meaning.{stateOf, storeLeaves}
-use Rattle.plavotesk.specs.HistogramMeaning.{Leaves, againOf, askLeaves, exported, flipLeaves, incrementLeaves, openLeaves, openedAnswer, openedWords, sumOf}
-use Rattle.plavotesk.specs.HistogramPromise.{AskPromise, FlipPromise, IncrementPromise, OpenPromise}
+use Rattle.lent.specs.Meaning.{Leaves, againOf, askLeaves, exported, flipLeaves, incrementLeaves, openLeaves, openedAnswer, openedWords, sumOf}
+use Rattle.lent.specs.Promise.{AskPromise, FlipPromise, IncrementPromise, OpenPromise}
 
 -- a library's call whose number is not 0 leaves memory and state
 abbrev Quiet : List ℕ → State → Outcome → Type 0

@@ -4,8 +4,8 @@ use mathlib.Core.Path.{_≡_}
 use mathlib.Core.List.{List}
 use Prim.Native.Nat.{ℕ}
 use Rattle.ground.specs.Paper.{one-value}
-use Rattle.plavotesk.specs.HistogramMeaning.{Leaves}
-use Rattle.plavotesk.specs.HistogramPromise.{AskPromise, FlipPromise, IncrementPromise, OpenPromise}
+use Rattle.lent.specs.Meaning.{Leaves}
+use Rattle.lent.specs.Promise.{AskPromise, FlipPromise, IncrementPromise, OpenPromise}
 
 -- opening has one outcome
 pub open-one : (o : Leaves) (r r′ : ℕ) (m m′ w w′ : List ℕ) → OpenPromise o r m w → OpenPromise o r′ m′ w′ → (r ≡ r′) × (m ≡ m′) × (w ≡ w′)
