@@ -2,4 +2,4 @@
 -- call of it answers what the library's own call answers, and leaves its memory and state; so that nothing is lost.
 -- Assumes nothing.
 
-pub use Rattle.lent.specs.Session.{open-holds, answer-same, run-same, session-conserves}
+pub use Rattle.lent_histogram.specs.Session.{open-holds, answer-same, run-same, session-conserves}

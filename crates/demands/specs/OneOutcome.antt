@@ -32,10 +32,10 @@ pub use Rattle.feed.specs.OneOutcome.{next-one, front-one, after-one, byte-one,
 -- a state as words
 pub use Rattle.stored.specs.OneOutcome.{restore-one, store-one, restore-number-one}
 -- the C interface: packets and messages
-pub use Rattle.plavotesk.specs.OneOutcome.{packet-find-one as plv-packet-find-one, packet-header-one as plv-packet-header-one, packet-payload-one as plv-packet-payload-one, packet-write-one as plv-packet-write-one, message-read-one as plv-message-read-one, message-write-one as plv-message-write-one}
+pub use Rattle.lent_packets.specs.OneOutcome.{packet-find-one as plv-packet-find-one, packet-header-one as plv-packet-header-one, packet-payload-one as plv-packet-payload-one, packet-write-one as plv-packet-write-one, message-read-one as plv-message-read-one, message-write-one as plv-message-write-one}
 -- the C interface: codes, readings and rates
-pub use Rattle.plavotesk.specs.OneOutcome.{code-pack-one as plv-code-pack-one, code-unpack-one as plv-code-unpack-one, reading-one as plv-reading-one, rate-one as plv-rate-one}
+pub use Rattle.lent_codes.specs.OneOutcome.{code-pack-one as plv-code-pack-one, code-unpack-one as plv-code-unpack-one, reading-one as plv-reading-one, rate-one as plv-rate-one}
 -- the C interface: formats and cadence; the checksum and the counts of floats have the promises above
-pub use Rattle.plavotesk.specs.OneOutcome.{float16-code-one as plv-float16-code-one, float8-code-one as plv-float8-code-one, int24-code-one as plv-int24-code-one, int24-count-one as plv-int24-count-one, level-seconds-one as plv-level-seconds-one, second-beginning-one as plv-second-beginning-one, second-ending-one as plv-second-ending-one}
+pub use Rattle.lent_formats.specs.OneOutcome.{float16-code-one as plv-float16-code-one, float8-code-one as plv-float8-code-one, int24-code-one as plv-int24-code-one, int24-count-one as plv-int24-count-one, level-seconds-one as plv-level-seconds-one, second-beginning-one as plv-second-beginning-one, second-ending-one as plv-second-ending-one}
 -- the C interface: histogram memory
-pub use Rattle.lent.specs.OneOutcome.{open-one as plv-histogram-open-one, increment-one as plv-histogram-increment-one, flip-one as plv-histogram-flip-one, ask-one as plv-histogram-ask-one}
+pub use Rattle.lent_histogram.specs.OneOutcome.{open-one as plv-histogram-open-one, increment-one as plv-histogram-increment-one, flip-one as plv-histogram-flip-one, ask-one as plv-histogram-ask-one}

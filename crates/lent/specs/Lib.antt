@@ -1,5 +1,2 @@
 pub mod Meaning
-pub mod Promise
-pub mod OneOutcome
-pub mod Stays
-pub mod Session
+pub mod Laws

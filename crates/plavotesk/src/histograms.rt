@@ -1,13 +1,13 @@
 // Histogram memory and numbered asks; the state is ten words that the caller lends and keeps.
-ghost use Rattle.lent.specs.Meaning.{askLeaves, flipLeaves, incrementLeaves, openLeaves, windowOf};
-ghost use Rattle.lent.specs.Promise.{AskPromise, FlipPromise, IncrementPromise, OpenPromise};
+ghost use Rattle.lent_histogram.specs.Meaning.{askLeaves, flipLeaves, incrementLeaves, openLeaves, windowOf};
+ghost use Rattle.lent_histogram.specs.Promise.{AskPromise, FlipPromise, IncrementPromise, OpenPromise};
 
 // Takes 2N words, sets them all to 0, and puts the opened state into ten lent words; 13.
 #[no_mangle]
 pub extern "C" fn plv_histogram_open(memory: &mut [u32], state: &mut [u64]) -> u8
     ensures { λ r. ⌜ OpenPromise (openLeaves (now (memory .entry)) (now (state .entry))) r (now (memory .exit)) (now (state .exit)) ⌝ }
 {
-    lent::open(memory, state)
+    lent_histogram::open(memory, state)
 }
 
 // Adds 1 to the word at an address of the active page; 13, 14, 16, 15.
@@ -15,7 +15,7 @@ pub extern "C" fn plv_histogram_open(memory: &mut [u32], state: &mut [u64]) -> u
 pub extern "C" fn plv_histogram_increment(memory: &mut [u32], state: &[u64], address: u32) -> u8
     ensures { λ r. ⌜ IncrementPromise (incrementLeaves (now (memory .entry)) (now (state .entry)) address) r (now (memory .exit)) ⌝ }
 {
-    lent::increment(memory, state, address)
+    lent_histogram::increment(memory, state, address)
 }
 
 // Exchanges the active page and the idle one; 13.
@@ -23,7 +23,7 @@ pub extern "C" fn plv_histogram_increment(memory: &mut [u32], state: &[u64], add
 pub extern "C" fn plv_histogram_flip(memory: &[u32], state: &mut [u64]) -> u8
     ensures { λ r. ⌜ FlipPromise (flipLeaves (now (memory .entry)) (now (state .entry))) r (now (state .exit)) ⌝ }
 {
-    lent::flip(memory, state)
+    lent_histogram::flip(memory, state)
 }
 
 // Sums a window of the idle page, once for each number; clear 0 keeps, any other number clears, and again is 1 for a repeat, 0 for a new ask; 13, 18, 17, 14, 16.
@@ -42,7 +42,7 @@ pub extern "C" fn plv_histogram_ask(
 ) -> u8
     ensures { λ r. ⌜ AskPromise (askLeaves (now (memory .entry)) (now (state .entry)) number (windowOf address xsize ysize ystride clear)) (now (sum .entry)) (now (again .entry)) r (now (memory .exit)) (now (state .exit)) (now (sum .exit)) (now (again .exit)) ⌝ }
 {
-    lent::ask(
+    lent_histogram::ask(
         memory,
         state,
         number,

@@ -1,0 +1,5 @@
+pub mod Meaning
+pub mod Promise
+pub mod OneOutcome
+pub mod Stays
+pub mod Session

@@ -1,4 +1,0 @@
-pub mod Saying
-pub mod Parts
-pub mod Whole
-pub mod Leaving
