@@ -1,3 +1,2 @@
-pub mod Reading
-pub mod Parts
-pub mod Writing
+pub mod Numbers
+pub mod Integers

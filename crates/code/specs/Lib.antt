@@ -5,7 +5,6 @@ pub mod Shapes
 pub mod Magnitudes
 pub mod Answers
 pub mod Promise
-pub mod Steps
 pub mod Positions
 pub mod OneOutcome
 pub mod Theorems

@@ -1,10 +1,14 @@
 -- Two outcomes that meet a call's promise are equal, answer and memory.
 -- Assumes nothing.
 use mathlib.Core.Path.{_≡_}
+use mathlib.Core.Bool.{Bool, _&&_}
 use mathlib.Core.List.{List}
 use Prim.Native.Nat.{ℕ}
+use lib.Dec.{leb}
 use lib.IntN.{ℤ, natAbs}
+use lib.ListN.{length}
 use Rattle.ground.specs.Paper.{numberOf, one-answer, one-value}
+use Rattle.code.specs.Meaning.{counted, dropTaken, largest}
 use Rattle.code.specs.Answers.{packedPaper, packedBack, packed-home, unpackedPaper, unpackedBack, unpacked-home}
 use Rattle.code.specs.Promise.{PackPromise, UnpackPromise, SignPromise}
 use Rattle.code.specs.declared.Packed.{Packed}
@@ -34,3 +38,19 @@ magnitude-one v p q = one-value p q
 -- one sign bit for a number
 pub sign-one : (v : ℤ) {m n : ℕ} → SignPromise v m → SignPromise v n → m ≡ n
 sign-one v p q = one-value (p .answer) (q .answer)
+
+-- one answer to a drop
+pub drop-taken-one : (d : ℕ) {a b : Bool} → a ≡ dropTaken d → b ≡ dropTaken d → a ≡ b
+drop-taken-one d p q = one-value p q
+
+-- one answer to a magnitude and a drop
+pub in-rule-one : (m d : ℕ) {a b : Bool} → a ≡ (dropTaken d && leb m largest) → b ≡ (dropTaken d && leb m largest) → a ≡ b
+in-rule-one m d p q = one-value p q
+
+-- one number for a drop
+pub wide-one : (d : ℕ) {m n : ℕ} → m ≡ d → n ≡ d → m ≡ n
+wide-one d p q = one-value p q
+
+-- one number of bits that count
+pub end-of-one : (bytes : List ℕ) {m n : ℕ} → m ≡ length (counted bytes) → n ≡ length (counted bytes) → m ≡ n
+end-of-one bytes p q = one-value p q

@@ -1,15 +1,13 @@
-// Packed codes: numbers to bits and back, at any bit position of lent bytes, with drop 0 or 3.
-mod read;
-mod write;
-
+// Packed codes: the answers of writing and reading them, and the small questions that both ask; `pack` writes, `unpack` reads.
 ghost use mathlib.Core.Path.{_≡_};
 ghost use mathlib.Core.Bool.{_&&_};
 ghost use lib.Dec.{leb};
 ghost use lib.IntN.{natAbs};
+ghost use lib.ListN.{length};
 ghost use Rattle.ground.specs.Paper.{numberOf};
-ghost use Rattle.code.specs.Meaning.{dropTaken, largest};
+ghost use Rattle.code.specs.Meaning.{counted, dropTaken, largest};
 ghost use Rattle.code.specs.Answers.{packedPaper, unpackedPaper};
-ghost use Rattle.code.specs.Promise.{PackPromise, SignPromise, UnpackPromise};
+ghost use Rattle.code.specs.Promise.{SignPromise};
 
 // The largest magnitude that is packed.
 const LARGEST: u32 = 33554431;
@@ -28,31 +26,6 @@ pub enum Unpacked {
     RanOut,
     RedundantZero,
     RunTooLong,
-}
-
-// A number put into a buffer as a code, from a bit position on.
-pub fn pack(buffer: &mut [u8], at: u64, v: i32, drop: u8) -> Packed
-    ensures { λ r. ⌜ PackPromise (now (buffer .entry)) at v drop r (now (buffer .exit)) ⌝ }
-{
-    let m = magnitude(v);
-    if in_rule(m, drop) {
-        let code = write::code(wide(drop), sign(v), m);
-        write::place(buffer, at, code.number, code.count)
-    } else {
-        Packed::OutsideRule
-    }
-}
-
-// The code at a bit position of bytes: its number and the position after it.
-pub fn unpack(bytes: &[u8], at: u64, drop: u8) -> Unpacked
-    ensures { λ r. ⌜ UnpackPromise (now (bytes .entry)) at drop r ⌝ }
-{
-    if drop_taken(drop) {
-        let end = read::end_of(bytes);
-        read::code(bytes, at, end, wide(drop))
-    } else {
-        Unpacked::OutsideRule
-    }
 }
 
 // Document 01's number of what writing answered, 0 where a code was written.
@@ -95,14 +68,14 @@ pub fn sign(v: i32) -> u32
 }
 
 // Only drop 0 and drop 3 are taken.
-fn drop_taken(drop: u8) -> bool
+pub fn drop_taken(drop: u8) -> bool
     ensures { λ r. ⌜ r ≡ dropTaken drop ⌝ }
 {
     if drop == 0 { true } else { drop == 3 }
 }
 
 // A magnitude and a drop inside the rule.
-fn in_rule(m: u32, drop: u8) -> bool
+pub fn in_rule(m: u32, drop: u8) -> bool
     ensures { λ r. ⌜ r ≡ (dropTaken drop && leb m largest) ⌝ }
 {
     if drop_taken(drop) {
@@ -113,8 +86,20 @@ fn in_rule(m: u32, drop: u8) -> bool
 }
 
 // A drop as the number that widths are made of.
-fn wide(drop: u8) -> u32
+pub fn wide(drop: u8) -> u32
     ensures { λ r. ⌜ r ≡ drop ⌝ }
 {
     drop as u32
+}
+
+// How many bits count: eight a byte, and none from position 2^63 on.
+pub fn end_of(bytes: &[u8]) -> u64
+    ensures { λ r. ⌜ r ≡ length (counted (now (bytes .entry))) ⌝ }
+{
+    let n = bytes.len() as u64;
+    if n < 1152921504606846976 {
+        n * 8
+    } else {
+        9223372036854775808
+    }
 }

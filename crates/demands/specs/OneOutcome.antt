@@ -10,8 +10,9 @@ pub use Rattle.word.specs.OneOutcome.{lies-one, word-one, put-one}
 pub use Rattle.packet.specs.OneOutcome.{find-one, header-one, payload-one, write-one as packet-write-one, found-number-one, headed-number-one, written-number-one as packet-written-number-one}
 -- messages
 pub use Rattle.message.specs.OneOutcome.{read-one as message-read-one, write-one as message-write-one, read-number-one, written-number-one as message-written-number-one}
--- packed codes: pack; unpack, and a reader's next_code and read_at; magnitude; sign
+-- packed codes: pack; unpack, and a reader's next_code and read_at; magnitude; sign; the small questions that both ask
 pub use Rattle.code.specs.OneOutcome.{pack-one, unpack-one, magnitude-one, sign-one, packed-number-one, unpacked-number-one}
+pub use Rattle.code.specs.OneOutcome.{drop-taken-one, in-rule-one, wide-one, end-of-one}
 -- the reader: reader_at and moved_to
 pub use Rattle.reader.specs.OneOutcome.{reader-one}
 -- plain formats

@@ -13,7 +13,7 @@ ghost use Rattle.lent_codes.specs.Promise.{CodePackPromise, CodeUnpackPr
 pub fn pack(buffer: &mut [u8], at: u64, value: i32, drop: u8, next: &mut u64) -> u8
     ensures { λ r. ⌜ CodePackPromise (now (buffer .entry)) at value drop (now (next .entry)) r (now (buffer .exit)) (now (next .exit)) ⌝ }
 {
-    match code::pack(buffer, at, value, drop) {
+    match pack::pack(buffer, at, value, drop) {
         Packed::Next(after) => {
             *next = after;
             0
@@ -27,7 +27,7 @@ pub fn pack(buffer: &mut [u8], at: u64, value: i32, drop: u8, next: &mut u64) ->
 pub fn unpack(bytes: &[u8], at: u64, drop: u8, value: &mut i32, next: &mut u64) -> u8
     ensures { λ r. ⌜ CodeUnpackPromise (now (bytes .entry)) at drop (now (value .entry)) (now (next .entry)) r (now (value .exit)) (now (next .exit)) ⌝ }
 {
-    match code::unpack(bytes, at, drop) {
+    match unpack::unpack(bytes, at, drop) {
         Unpacked::Number {
             value: number,
             next: past,

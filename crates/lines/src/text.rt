@@ -85,7 +85,7 @@ fn put_code(room: &mut [u8], at: usize, v: i32, drop: u8) -> usize
     ensures { λ r. ⌜ Put (now (room .entry)) at (codeText drop v) r (now (room .exit)) ⌝ }
 {
     let mut bytes = [0u8; 4];
-    let packed = code::pack(&mut bytes, 0, v, drop);
+    let packed = pack::pack(&mut bytes, 0, v, drop);
     put_bits(room, at, &bytes, next_of(packed))
 }
 

@@ -38,7 +38,7 @@ pub enum Rated {
 pub fn reading(bytes: &[u8], at: u64, drop: u8) -> Counted
     ensures { λ r. ⌜ ReadingPromise (now (bytes .entry)) at drop r ⌝ }
 {
-    let answer = code::unpack(bytes, at, drop);
+    let answer = unpack::unpack(bytes, at, drop);
     let Unpacked::Number { value, next } = answer else {
         return Counted::Refused(handed(answer));
     };

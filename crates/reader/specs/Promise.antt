@@ -1,4 +1,4 @@
--- What making and moving a reader promise; asking it promises what `code::unpack` does.
+-- What making and moving a reader promise; asking it promises what `unpack::unpack` does.
 -- Assumes nothing.
 use mathlib.Core.Path.{_≡_}
 use mathlib.Core.List.{List}

@@ -20,7 +20,7 @@ pub fn reader_at<'a>(bytes: &'a [u8], at: u64) -> Reader<'a>
 pub fn next_code<'a>(r: Reader<'a>, drop: u8) -> Unpacked
     ensures { λ u. ⌜ UnpackPromise (now (r .entry .bytes)) (r .entry .at) drop u ⌝ }
 {
-    code::unpack(r.bytes, r.at, drop)
+    unpack::unpack(r.bytes, r.at, drop)
 }
 
 // The reader moved to a bit position: to the next that was answered, where a run of codes is read.

@@ -7,7 +7,7 @@ use code::Unpacked;
 pub fn unpack(given: &[u8]) {
     let drop = feed::byte(given, 0) as u8;
     let at = feed::eight(feed::after(given, 1));
-    let answer = code::unpack(feed::after(given, 9), at, drop);
+    let answer = unpack::unpack(feed::after(given, 9), at, drop);
     say::first(code::unpacked_number(answer) as u64);
     match answer {
         Unpacked::Number { value, next } => {
@@ -42,7 +42,7 @@ fn packed(buffer: &mut [u8], given: &[u8]) {
     let drop = feed::byte(given, 0) as u8;
     let at = feed::eight(feed::after(given, 1));
     let v = say::number(feed::four(feed::after(given, 9)));
-    let answer = code::pack(buffer, at, v, drop);
+    let answer = pack::pack(buffer, at, v, drop);
     say::first(code::packed_number(answer) as u64);
     match answer {
         Packed::Next(next) => say::more(next),
@@ -79,10 +79,10 @@ fn packs_one(room: &mut [u8], length: usize, given: &[u8], v: i32) -> usize {
     let at = feed::byte(given, 1);
     let filling = feed::byte(given, 2) as u8;
     let mut buffer = [filling; 6];
-    let answer = code::pack(&mut buffer, at, v, drop);
+    let answer = pack::pack(&mut buffer, at, v, drop);
     let told = packed_log(room, length, answer);
     let end = say::log_bytes(room, told, &buffer);
-    unpacked_log(room, end, code::unpack(&buffer, at, drop))
+    unpacked_log(room, end, unpack::unpack(&buffer, at, drop))
 }
 
 fn packed_log(room: &mut [u8], length: usize, answer: Packed) -> usize {

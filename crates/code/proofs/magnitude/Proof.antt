@@ -1,6 +1,6 @@
 -- `code::magnitude` meets its contract: 64 bits hold the negation of every i32.
 -- Assumes nothing.
-use Rattle.code.proofs.Writing.{cast-fits, negated-fits, negated-cast, negated-is, natural-cast, natural-is}
+use Rattle.code.proofs.Integers.{cast-fits, negated-fits, negated-cast, negated-is, natural-cast, natural-is}
 use Rattle.code.proofs.magnitude.Statement.{statement}
 use Rattle.code.proofs.magnitude.Tie as tie
 

@@ -1,6 +1,6 @@
 -- `code::sign` meets its contract: 1 for negative.
 -- Assumes nothing.
-use Rattle.code.proofs.Writing.{sign-minus, sign-plus}
+use Rattle.code.proofs.Integers.{sign-minus, sign-plus}
 use Rattle.code.proofs.sign.Statement.{statement}
 use Rattle.code.proofs.sign.Tie as tie
 

@@ -9,7 +9,7 @@ use Rattle.lines.proofs.text.put_code.Statement.{statement}
 use Rattle.lines.proofs.text.put_code.Tie as tie
 use Rattle.lines.proofs.text.put_code.Reads as reads
 use Rattle.lines.proofs.text.put_code.Lts as lts
-use Rattle.code.proofs.pack.Reads as pack-reads
+use Rattle.pack.proofs.pack.Reads as pack-reads
 use Rattle.lines.proofs.text.next_of.Reads as next-of-reads
 use Rattle.lines.proofs.text.put_bits.Reads as put-bits-reads
 

@@ -1,0 +1,69 @@
+-- `pack::pack` meets its contract: 8 first, then 3, else the code stands at its place.
+-- Assumes nothing.
+use mathlib.Core.Path.{sym, ap, _∙_, subst}
+use lib.IntN.{natAbs}
+use mir.Syntax.{w32}
+use mir.ValLaws.{toZ-ofZ}
+use Rattle.code.specs.Meaning.{dropTaken, largest, signOf}
+use Rattle.code.specs.Shapes.{Drop, drop-of}
+use Rattle.pack.proofs.Writing.{pack-is, pack-refuses}
+use borrow.Author.Tests.{leb-true}
+use Rattle.ground.specs.Questions.{both-hold}
+use native.Mathlib.Omega.{arith}
+use borrow.Author.Needs.{needs}
+use Rattle.pack.proofs.pack.Statement.{statement}
+use Rattle.pack.proofs.pack.Tie as tie
+
+magnitude-requires : tie.Need-magnitude-requires
+magnitude-requires c κs = search needs
+
+in-rule-requires : tie.Need-in-rule-requires
+in-rule-requires c κs = search needs
+
+wide-requires : tie.Need-wide-requires
+wide-requires c κs = search needs
+
+sign-requires : tie.Need-sign-requires
+sign-requires c κs = search needs
+
+code-requires : tie.Need-code-requires
+code-requires c κs =
+    let a = c .before .before .before .before .before .before .args in
+    let t = both-hold {a = dropTaken (a .drop)} (sym (c .before .before .before .in-rule .ensures) ∙ c .before .before .if1 .taken) in
+    let small = leb-true (c .before .before .before .before .magnitude .result) largest (t .1) in
+    (subst Drop (sym (c .before .wide .ensures)) (drop-of (a .drop) (t .0)), c .sign .ensures .bit, omega arith)
+
+place-requires : tie.Need-place-requires
+place-requires c κs = search needs
+
+same-length : tie.Need-same-length
+same-length c = search needs
+
+returns : tie.Need-returns
+returns c =
+    let a = c .before .before .before .before .before .before .before .before .before .before .before .args in
+    let t = sym (c .before .before .before .before .before .before .before .before .in-rule .ensures) ∙ c .before .before .before .before .before .before .before .if1 .taken in
+    let p = c .before .before .place in
+    let v-is = toZ-ofZ w32 (a .v) (c .before .before .before .before .before .before .before .before .before .before .before .fits .v) in
+    pack-is (a .buffer .now) (p .last .0) (a .at) (a .v) (a .drop) (c .before .before .before .before .before .before .wide .result) (c .before .before .before .before .before .sign .result) (c .before .before .before .before .before .before .before .before .before .magnitude .result) _ _ (p .result)
+    (c .before .before .before .before .before .before .before .before .before .magnitude .ensures ∙ ap natAbs v-is) (c .before .before .before .before .before .sign .ensures .answer ∙ ap signOf v-is) (c .before .before .before .before .before .before .wide .ensures) t (c .before .before .before .before .code .ensures) (p .ensures)
+
+returns-2 : tie.Need-returns-2
+returns-2 c =
+    let a = c .before .before .before .before .args in
+    let v-is = toZ-ofZ w32 (a .v) (c .before .before .before .before .fits .v) in
+    pack-refuses (a .buffer .now) (a .at) (a .v) (a .drop) (c .before .before .magnitude .result) (c .before .before .magnitude .ensures ∙ ap natAbs v-is) (sym (c .before .in-rule .ensures) ∙ c .if1 .left)
+
+pub pack-spec : {M : Type 1} → statement M
+pack-spec =
+    tie.close
+    (tie.spec
+    magnitude-requires
+    in-rule-requires
+    wide-requires
+    sign-requires
+    code-requires
+    place-requires
+    same-length
+    returns
+    returns-2)

@@ -1,0 +1,53 @@
+-- `pack::write::put_part` meets its contract: the byte that holds the position is stored with its last bits replaced.
+-- Assumes nothing.
+use Rattle.code.specs.Positions.{counted-inside}
+use Rattle.pack.proofs.Writing.{part-stored, room-holds}
+use native.Mathlib.Omega.{arith}
+use borrow.Author.Needs.{needs}
+use Rattle.pack.proofs.write.put_part.Statement.{statement}
+use Rattle.pack.proofs.write.put_part.Tie as tie
+
+slice-read-byte-wide : tie.Need-slice-read-byte-wide
+slice-read-byte-wide c = omega (arith, counted-inside (c .before .before .args .buffer .now) (c .before .before .args .at) (c .before .before .pre .0))
+
+byte-wide-requires : tie.Need-byte-wide-requires
+byte-wide-requires c κs = search needs
+
+room-at-requires : tie.Need-room-at-requires
+room-at-requires c κs = search needs
+
+filled-requires : tie.Need-filled-requires
+filled-requires c κs =
+    let s = c .before .before .before .before in
+    (c .before .byte-wide .ensures .1, c .room-at .ensures .2, room-holds _ _ _ (c .room-at .ensures .0) (s .pre .1))
+
+cast-buffer : tie.Need-cast-buffer
+cast-buffer c = search needs
+
+slice-write-buffer : tie.Need-slice-write-buffer
+slice-write-buffer c =
+    let s = c .before .before .before .before .before in
+    omega (arith, counted-inside (s .args .buffer .now) (s .args .at) (s .pre .0))
+
+same-length : tie.Need-same-length
+same-length c = search needs
+
+returns : tie.Need-returns
+returns c =
+    let s = c .before .before .before .before .before in
+    let a = s .args in
+    part-stored (a .buffer .now) (a .at) (c .before .before .byte-wide .result) (c .before .room-at .result) (c .filled .result) (a .number)
+    (counted-inside _ _ (s .pre .0)) (c .before .before .byte-wide .ensures .0) (c .before .room-at .ensures .0) (c .filled .ensures .0)
+
+pub put-part-spec : {M : Type 1} → statement M
+put-part-spec =
+    tie.close
+    (tie.spec
+    slice-read-byte-wide
+    byte-wide-requires
+    room-at-requires
+    filled-requires
+    cast-buffer
+    slice-write-buffer
+    same-length
+    returns)

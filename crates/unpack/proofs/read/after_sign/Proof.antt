@@ -1,0 +1,92 @@
+-- `unpack::read::after_sign` meets its contract: at each turn the definition at the start is the definition here, with the ones seen so far.
+-- Assumes nothing.
+use mathlib.Core.Path.{_≡_, refl, _∙_}
+use Prim.Native.Nat.{_-_, _≤_}
+use native.Mathlib.Omega.{arith}
+use lib.ListN.{drop as dropped}
+use Rattle.code.specs.Meaning.{afterSign, counted, longestRun}
+use Rattle.unpack.proofs.Parts.{answer-by, run-ends, run-goes-on, run-too-long, run-out}
+use Rattle.unpack.proofs.read.after_sign.Statement.{statement}
+use Rattle.unpack.proofs.read.after_sign.Tie as tie
+
+abbrev Inv-loop : tie.InvT-loop
+Inv-loop bytes at end drop sign ones₀ here₀ ones here =
+    (here ≤ end) × (ones ≤ longestRun) × (afterSign drop sign 0 (dropped at (counted bytes)) ≡ afterSign drop sign ones (dropped here (counted bytes)))
+
+abbrev μ-loop : tie.MeasureT-loop
+μ-loop bytes at end drop sign ones₀ here₀ ones here = end - here
+
+loop-holds : tie.Need-loop-holds Inv-loop μ-loop
+loop-holds c = (c .before .pre .3, omega arith, refl)
+
+bit-requires : tie.Need-bit-requires Inv-loop μ-loop
+bit-requires c κs = omega arith
+
+add-after-run : tie.Need-add-after-run Inv-loop μ-loop
+add-after-run c = omega arith
+
+after-run-requires : tie.Need-after-run-requires Inv-loop μ-loop
+after-run-requires c κs =
+    let p = c .before .before .before .before .before .pre in
+    (p .0, p .1, p .2, omega arith, c .before .before .before .loop .inv .1)
+
+returns : tie.Need-returns Inv-loop μ-loop
+returns c =
+    let l = c .before .before .before .before .loop in
+    let b = c .before .before .bit in
+    answer-by _ _ (l .inv .2)
+    (run-ends _ (l .here) _ _ _ _ (b .result) (c .before .before .before .before .before .before .pre .0) (c .before .before .before .loop-test .taken) (b .ensures .0)
+    (c .before .if1 .taken))
+    (c .after-run .ensures)
+
+returns-2 : tie.Need-returns-2 Inv-loop μ-loop
+returns-2 c =
+    let l = c .before .before .before .before .loop in
+    let b = c .before .before .bit in
+    answer-by _ _ (l .inv .2)
+    (run-too-long _ (l .here) _ _ _ (l .ones) (b .result) (c .before .before .before .before .before .before .pre .0) (c .before .before .before .loop-test .taken) (b .ensures .0)
+    (c .before .if1 .left) (omega arith))
+    refl
+
+add-ones : tie.Need-add-ones Inv-loop μ-loop
+add-ones c = omega arith
+
+add-here : tie.Need-add-here Inv-loop μ-loop
+add-here c = omega arith
+
+loop-less : tie.Need-loop-less Inv-loop μ-loop
+loop-less c = omega arith
+
+loop-again : tie.Need-loop-again Inv-loop μ-loop
+loop-again c =
+    let l = c .before .before .before .before .loop in
+    let b = c .before .before .bit in (
+      omega arith,
+      omega arith,
+      l .inv .2
+          ∙ run-goes-on _ (l .here) _ _ _ _ (b .result) (c .before .before .before .before .before .before .pre .0) (c .before .before .before .loop-test .taken) (b .ensures .0)
+          (c .before .if1 .left) (c .if2 .left),
+    )
+
+returns-3 : tie.Need-returns-3 Inv-loop μ-loop
+returns-3 c =
+    let l = c .before .loop in
+    answer-by _ _ (l .inv .2) (run-out _ (l .here) _ _ _ _ (c .before .before .before .pre .0) (c .loop-test .left)) refl
+
+pub after-sign-spec : {M : Type 1} → statement M
+after-sign-spec =
+    tie.close
+    (tie.spec
+    Inv-loop
+    μ-loop
+    loop-holds
+    bit-requires
+    add-after-run
+    after-run-requires
+    returns
+    returns-2
+    add-ones
+    add-here
+    loop-less
+    loop-again
+    returns-3)

@@ -1,0 +1,18 @@
+-- `unpack::read::code` meets its contract: a position past the end has no bit.
+-- Assumes nothing.
+use Rattle.unpack.proofs.Parts.{code-out}
+use borrow.Author.Needs.{needs}
+use Rattle.unpack.proofs.read.code.Statement.{statement}
+use Rattle.unpack.proofs.read.code.Tie as tie
+
+first-bit-requires : tie.Need-first-bit-requires
+first-bit-requires c κs = search needs
+
+returns : tie.Need-returns
+returns c = search needs
+
+returns-2 : tie.Need-returns-2
+returns-2 c = code-out _ _ _ _ (c .before .before .pre .0) (c .if1 .left)
+
+pub code-spec : {M : Type 1} → statement M
+code-spec = tie.close (tie.spec first-bit-requires returns returns-2)
