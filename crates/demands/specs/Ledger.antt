@@ -5,8 +5,8 @@ use mathlib.Core.List.{List, _∷_, _++_}
 use Prim.Native.Nat.{ℕ, _+_}
 use Rattle.ground.specs.Paper.{accepted}
 use Rattle.histogram.specs.declared.State.{State}
-use Rattle.histogram.specs.declared.Window.{Window}
-use Rattle.histogram.specs.Meaning.{openMeans, new, again, Outcome}
+use Rattle.pages.specs.declared.Window.{Window}
+use Rattle.histogram.specs.Meaning.{openMeans, new, again}
 use Rattle.histogram.specs.Runs.{Call, ask, Ledger, opening, answered, step, run, total, NoNew}
 use Rattle.histogram.specs.Conservation.{conservation}
 use Rattle.histogram.specs.Repeat.{repeat-from-opening}

@@ -22,6 +22,10 @@ pub use Rattle.format.specs.OneOutcome.{code16-number-one, code8-number-one, co
 pub use Rattle.cadence.specs.OneOutcome.{seconds-one, beginning-one, ending-one, length-number-one, level-number-one}
 -- readings and rates
 pub use Rattle.rate.specs.OneOutcome.{reading-one, rate-one, counted-number-one, rated-number-one, refusal-number-one}
+-- two pages of counters
+pub use Rattle.pages.specs.OneOutcome.{sized-one, clear-one, count-one, check-one, take-one}
+-- whose turn it is
+pub use Rattle.turn.specs.OneOutcome.{turn-one}
 -- histogram memory
 pub use Rattle.histogram.specs.OneOutcome.{open-one, increment-one, flip-one, ask-one, open-number-one, increment-number-one, flip-number-one, ask-number-one}
 -- the code program's lines

@@ -12,7 +12,7 @@ use Rattle.ground.specs.Paper.{Paper, accepted, refused, refusedWith}
 use Rattle.code.specs.Meaning.{codeOf, decoded, packMeans, signOf, leadingIn, shapeOf}
 use Rattle.format.specs.Meaning.{codeMeans, floatValue}
 use Rattle.cadence.specs.Meaning.{beginningMeans, endingMeans}
-use Rattle.histogram.specs.Meaning.{cellsOf}
+use Rattle.pages.specs.Meaning.{cellsOf}
 
 -- a case: what is given, and what must come of it
 pub data Case : Type 0 where

@@ -2,6 +2,3 @@ mod Asking
 mod Counting
 mod Flipping
 mod Opening
-mod Tested
-mod Turning
-mod Walking

@@ -3,21 +3,22 @@
 use mathlib.Core.Bool.{Bool, true, false, not}
 use mathlib.Core.Path.{_≡_, refl, ap}
 use mathlib.Core.List.{List, [], _∷_}
-use Prim.Native.Nat.{ℕ, zero, suc, _+_, _/_, _<_}
+use Prim.Native.Nat.{ℕ, zero, suc, _+_, _<_}
 use native.Mathlib.Omega.{arith}
-use lib.Dec.{leb, ltb, eqb}
 use lib.ListN.{length, getD, set, replicate}
-use borrow.Author.Tests.{ltb-true}
 use Rattle.ground.specs.Choice.{pick, pick-elim}
 use Rattle.ground.specs.Paper.{accepted}
 use Rattle.histogram.specs.Fresh.{is-opened}
-use Rattle.histogram.specs.Layout.{placeOf, within}
-use Rattle.histogram.specs.Meaning.{Outcome, Walk, askMeans, cellsOf, fittingOf, flipMeans, full, incrementMeans, lastOf, newMeans, openMeans, soundOf, turnMeans, turnOf, visitOf, walkOf, wordOf}
+use Rattle.pages.specs.Layout.{placeOf, within}
+use Rattle.pages.specs.Outcomes.{count-elim, take-elim}
+use Rattle.pages.specs.Meaning.{PageOutcome, Walk, cellsOf, visitOf, walkOf, wordOf}
+use Rattle.turn.specs.Meaning.{turnOf}
+use Rattle.histogram.specs.Meaning.{Outcome, counting, taking, askMeans, fittingOf, flipMeans, incrementMeans, newMeans, openMeans, turnMeans}
 use Rattle.histogram.specs.Runs.{Call, increment, flip, ask, Ledger, acceptedBy, callMeans, clearedBy, opening, run, step, total}
-use Rattle.histogram.specs.declared.Window.{Window}
+use Rattle.pages.specs.declared.Window.{Window}
 use Rattle.histogram.specs.declared.State.{State}
-use Rattle.histogram.specs.declared.turn.Turn.{Turn}
-use Rattle.histogram.specs.declared.turn.Turn.the-variants.{NewAsk, LastAsk, OtherWindow, OutOfTurn}
+use Rattle.turn.specs.declared.Turn.{Turn}
+use Rattle.turn.specs.declared.Turn.the-variants.{NewAsk, LastAsk, OtherWindow, OutOfTurn}
 
 -- a word replaced: the total changes by the difference
 pub total-set : (l : List ℕ) (i v : ℕ) → i < length l → total (set l i v) + getD l i 0 ≡ total l + v
@@ -69,18 +70,11 @@ Conserves m c o = total (o .memory) + clearedBy c (o .answer) ≡ total m + acce
 pub increment-conserves : (m : List ℕ) (s : State) (address : ℕ) → Conserves m (increment address) (incrementMeans m s address)
 unfolding incrementMeans
 increment-conserves m s address =
-    pick-elim P (fittingOf (length m) s) _ _
-    (λ h. pick-elim P (ltb address (length m / 2)) _ _
-    (λ k. pick-elim P (leb (wordOf m (s .second) address) full) _ _
-    (λ l. pick-elim P (eqb (wordOf m (s .second) address) full) _ _
-    (λ e. refl)
-    (λ e. omega (arith, total-set m (placeOf (length m) (s .second) address) (wordOf m (s .second) address + 1) (within (length m) (s .second) address (ltb-true _ _ k)))))
-    (λ l. refl))
-    (λ k. refl))
+    pick-elim (λ (o : Outcome). Conserves m (increment address) o) (fittingOf (length m) s) _ _
+    (λ h. count-elim (λ (o : PageOutcome (Unit {0})). Conserves m (increment address) (counting s o)) m (s .second) address
+    (λ k. omega (arith, total-set m (placeOf (length m) (s .second) address) (wordOf m (s .second) address + 1) (within (length m) (s .second) address k)))
+    (λ n. refl))
     (λ h. refl)
-  where
-    P : Outcome → Type 0
-    P o = Conserves m (increment address) o
 
 -- a flip conserves
 pub flip-conserves : (m : List ℕ) (s : State) → Conserves m flip (flipMeans m s)
@@ -91,11 +85,9 @@ flip-conserves m s = pick-elim (λ (o : Outcome). Conserves m flip o) (fittingOf
 pub new-conserves : (m : List ℕ) (s : State) (number : ℕ) (w : Window) → Conserves m (ask number w) (newMeans m s number w)
 unfolding newMeans
 new-conserves m s number w =
-    pick-elim (λ (o : Outcome). Conserves m (ask number w) o) (ltb (lastOf w) (length m / 2)) _ _
-    (λ h. pick-elim (λ (o : Outcome). Conserves m (ask number w) o) (soundOf m (not (s .second)) (cellsOf w)) _ _
-    (λ k. walk-conserves (not (s .second)) (w .clear) m (cellsOf w))
-    (λ k. refl))
-    (λ h. refl)
+    take-elim (λ (o : PageOutcome ℕ). Conserves m (ask number w) (taking s number w o)) m (not (s .second)) w
+    (λ h. walk-conserves (not (s .second)) (w .clear) m (cellsOf w))
+    (λ n. refl)
 
 -- an ask of any turn conserves
 pub turn-conserves : (t : Turn) (m : List ℕ) (s : State) (number : ℕ) (w : Window) → Conserves m (ask number w) (turnMeans t m s number w)

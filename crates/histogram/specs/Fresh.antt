@@ -9,7 +9,8 @@ use lib.ListN.{length, replicate, length-replicate}
 use borrow.Author.Tests.{eq-eqb}
 use Rattle.ground.specs.Choice.{pick}
 use Rattle.ground.specs.Paper.{accepted, refused}
-use Rattle.histogram.specs.Meaning.{fittingOf, fresh, openMeans, openLeaves, sizedOf}
+use Rattle.pages.specs.Meaning.{sizedOf}
+use Rattle.histogram.specs.Meaning.{fittingOf, fresh, openMeans, openLeaves}
 use Rattle.histogram.specs.declared.State.{State}
 
 -- a memory opened: its length is one that opening takes, its words are 0, the state is the fresh one

@@ -1,11 +1,7 @@
-pub mod Layout
 pub mod Meaning
 pub mod Answers
 pub mod Promise
 pub mod OneOutcome
-pub mod Cells
-pub mod Words
-pub mod Walks
 pub mod Pages
 pub mod Fresh
 pub mod Runs

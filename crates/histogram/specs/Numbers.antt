@@ -11,14 +11,15 @@ use borrow.Author.Tests.{eqb-true, ne-eqb}
 use Rattle.ground.specs.Choice.{pick-elim}
 use Rattle.ground.specs.Paper.{accepted, refused}
 use Rattle.histogram.specs.Fresh.{is-opened, opened-fits}
-use Rattle.histogram.specs.Meaning.{new, askMeans, fittingOf, nextOf, openMeans, sameOf, turnOf}
+use Rattle.turn.specs.Meaning.{nextOf, sameOf, turnOf}
+use Rattle.histogram.specs.Meaning.{new, askMeans, fittingOf, openMeans}
 use Rattle.histogram.specs.Runs.{Call, ask, Ledger, NoNew, answered, opening, run, step}
-use Rattle.histogram.specs.declared.Window.{Window}
-use Rattle.histogram.specs.declared.Kept.{Kept}
-use Rattle.histogram.specs.declared.Kept.the-variants.{Nothing, Last}
+use Rattle.pages.specs.declared.Window.{Window}
+use Rattle.turn.specs.declared.Kept.{Kept}
+use Rattle.turn.specs.declared.Kept.the-variants.{Nothing, Last}
 use Rattle.histogram.specs.declared.State.{State}
-use Rattle.histogram.specs.declared.turn.Turn.{Turn}
-use Rattle.histogram.specs.declared.turn.Turn.the-variants.{NewAsk}
+use Rattle.turn.specs.declared.Turn.{Turn}
+use Rattle.turn.specs.declared.Turn.the-variants.{NewAsk}
 use Rattle.histogram.specs.Stays.{run-stays}
 use Rattle.histogram.specs.Repeat.{is-new, stays-kept}
 

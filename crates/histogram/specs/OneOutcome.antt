@@ -6,7 +6,7 @@ use Prim.Native.Nat.{ℕ}
 use Rattle.ground.specs.Paper.{numberOf, one-answer, one-value}
 use Rattle.histogram.specs.Answers.{openedPaper, openedBack, opened-home, incrementPaper, incrementBack, increment-home, flipPaper, flipBack, flip-home, askPaper, askBack, ask-home}
 use Rattle.histogram.specs.Promise.{OpenPromise, IncrementPromise, FlipPromise, AskPromise}
-use Rattle.histogram.specs.declared.Window.{Window}
+use Rattle.pages.specs.declared.Window.{Window}
 use Rattle.histogram.specs.declared.State.{State}
 use Rattle.histogram.specs.declared.Opened.{Opened}
 use Rattle.histogram.specs.declared.Incremented.{Incremented}

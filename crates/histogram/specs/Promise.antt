@@ -5,7 +5,7 @@ use mathlib.Core.List.{List}
 use Prim.Native.Nat.{ℕ}
 use Rattle.histogram.specs.Meaning.{Outcome, openMeans, openLeaves, incrementMeans, flipMeans, askMeans}
 use Rattle.histogram.specs.Answers.{openedPaper, incrementPaper, flipPaper, askPaper}
-use Rattle.histogram.specs.declared.Window.{Window}
+use Rattle.pages.specs.declared.Window.{Window}
 use Rattle.histogram.specs.declared.State.{State}
 use Rattle.histogram.specs.declared.Opened.{Opened}
 use Rattle.histogram.specs.declared.Incremented.{Incremented}

@@ -3,20 +3,23 @@
 use mathlib.Core.Bool.{Bool, true, false, not, _&&_}
 use mathlib.Core.Path.{_≡_, refl, ap, ap₂, _∙_}
 use mathlib.Core.List.{List, _∷_, _++_}
-use Prim.Native.Nat.{ℕ, _+_, _/_}
+use Prim.Native.Nat.{ℕ}
 use native.Mathlib.Omega.{arith}
-use lib.Dec.{ltb, eqb}
+use lib.Dec.{eqb}
 use lib.ListN.{length}
 use borrow.Author.Tests.{eq-eqb}
 use Rattle.ground.specs.Choice.{pick-elim}
 use Rattle.ground.specs.Paper.{Paper, accepted, refused}
-use Rattle.histogram.specs.Meaning.{Outcome, Value, new, again, askMeans, cellsOf, fittingOf, lastOf, newMeans, openMeans, sameFlag, sameOf, sizedOf, soundOf, turnMeans, turnOf}
+use Rattle.pages.specs.Outcomes.{take-elim}
+use Rattle.pages.specs.Meaning.{PageOutcome, sizedOf}
+use Rattle.turn.specs.Meaning.{sameFlag, sameOf, turnOf}
+use Rattle.histogram.specs.Meaning.{Outcome, taking, Value, new, again, askMeans, fittingOf, newMeans, openMeans, turnMeans}
 use Rattle.histogram.specs.Runs.{Call, ask, Ledger, NoNew, answered, opening, run, run-append, step}
-use Rattle.histogram.specs.declared.Window.{Window}
-use Rattle.histogram.specs.declared.Kept.the-variants.{Last}
+use Rattle.pages.specs.declared.Window.{Window}
+use Rattle.turn.specs.declared.Kept.the-variants.{Last}
 use Rattle.histogram.specs.declared.State.{State}
-use Rattle.histogram.specs.declared.turn.Turn.{Turn}
-use Rattle.histogram.specs.declared.turn.Turn.the-variants.{NewAsk, LastAsk, OtherWindow, OutOfTurn}
+use Rattle.turn.specs.declared.Turn.{Turn}
+use Rattle.turn.specs.declared.Turn.the-variants.{NewAsk, LastAsk, OtherWindow, OutOfTurn}
 use Rattle.histogram.specs.Stays.{Stays, call-stays, run-stays}
 
 -- a flag is the same as itself
@@ -59,11 +62,9 @@ module _ (m : List ℕ) (s : State) (number sum : ℕ) (w : Window) (h : fitting
   new-turn : (t : Turn) → turnOf (s .kept) number w ≡ t → turnMeans t m s number w .answer ≡ accepted (new sum) → IsNew m s number sum w (turnMeans t m s number w)
   unfolding newMeans
   new-turn NewAsk f =
-      pick-elim (λ (o : Outcome). o .answer ≡ accepted (new sum) → IsNew m s number sum w o) (ltb (lastOf w) (length m / 2)) _ _
-      (λ k. pick-elim (λ (o : Outcome). o .answer ≡ accepted (new sum) → IsNew m s number sum w o) (soundOf m (not (s .second)) (cellsOf w)) _ _
-      (λ l e. record { fits = h; turn = f; kept = ap (λ (x : ℕ). Last number w x) (new-sums e) })
-      (λ l e. absurd (refused-not e)))
-      (λ k e. absurd (refused-not e))
+      take-elim (λ (o : PageOutcome ℕ). taking s number w o .answer ≡ accepted (new sum) → IsNew m s number sum w (taking s number w o)) m (not (s .second)) w
+      (λ k e. record { fits = h; turn = f; kept = ap (λ (x : ℕ). Last number w x) (new-sums e) })
+      (λ n e. absurd (refused-not e))
   new-turn (LastAsk x) f = λ e. absurd (again-not e)
   new-turn OtherWindow f = λ e. absurd (refused-not e)
   new-turn OutOfTurn f = λ e. absurd (refused-not e)

@@ -7,7 +7,7 @@ use Prim.Native.Nat.{ℕ, _+_}
 use Rattle.ground.specs.Choice.{pick}
 use Rattle.ground.specs.Paper.{Paper, accepted, refused, refusedWith}
 use Rattle.histogram.specs.Meaning.{Outcome, Value, done, new, again, incrementMeans, flipMeans, askMeans, openLeaves}
-use Rattle.histogram.specs.declared.Window.{Window}
+use Rattle.pages.specs.declared.Window.{Window}
 use Rattle.histogram.specs.declared.State.{State}
 
 -- a call on an opened memory

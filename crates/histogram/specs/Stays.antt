@@ -3,20 +3,23 @@
 use mathlib.Core.Bool.{true, false, not, _&&_}
 use mathlib.Core.Path.{_≡_, refl, ap₂, _∙_}
 use mathlib.Core.List.{List, [], _∷_}
-use Prim.Native.Nat.{ℕ, _+_, _/_}
+use Prim.Native.Nat.{ℕ, _+_}
 use native.Mathlib.Omega.{arith}
-use lib.Dec.{leb, ltb, eqb}
+use lib.Dec.{eqb}
 use lib.ListN.{length, length-set}
 use Rattle.ground.specs.Choice.{pick-elim}
 use Rattle.ground.specs.Paper.{accepted, refused}
-use Rattle.histogram.specs.Layout.{placeOf}
-use Rattle.histogram.specs.Meaning.{Outcome, Value, new, askMeans, cellsOf, fittingOf, flipMeans, full, incrementMeans, lastOf, newMeans, sizedOf, soundOf, turnMeans, turnOf, wordOf}
+use Rattle.pages.specs.Layout.{placeOf}
+use Rattle.pages.specs.Meaning.{cellsOf, sizedOf, PageOutcome, wordOf}
+use Rattle.turn.specs.Meaning.{turnOf}
+use Rattle.histogram.specs.Meaning.{Outcome, Value, askMeans, fittingOf, flipMeans, incrementMeans, newMeans, counting, taking, turnMeans}
 use Rattle.histogram.specs.Runs.{Call, increment, flip, ask, Ledger, NoNew, answered, callMeans, isNew, run, step}
-use Rattle.histogram.specs.Walks.{walk-length}
-use Rattle.histogram.specs.declared.Window.{Window}
+use Rattle.pages.specs.Outcomes.{count-elim, take-elim}
+use Rattle.pages.specs.Walks.{walk-length}
+use Rattle.pages.specs.declared.Window.{Window}
 use Rattle.histogram.specs.declared.State.{State}
-use Rattle.histogram.specs.declared.turn.Turn.{Turn}
-use Rattle.histogram.specs.declared.turn.Turn.the-variants.{NewAsk, LastAsk, OtherWindow, OutOfTurn}
+use Rattle.turn.specs.declared.Turn.{Turn}
+use Rattle.turn.specs.declared.Turn.the-variants.{NewAsk, LastAsk, OtherWindow, OutOfTurn}
 
 -- what every call leaves as it was: the memory's length, the state's 2N and, unless it is a new ask, what is kept; a refused call, everything
 pub record Stays (m : List ℕ) (s : State) (o : Outcome) : Type 0 where
@@ -38,18 +41,14 @@ pub increment-stays : (m : List ℕ) (s : State) (address : ℕ) → Stays m s (
 unfolding incrementMeans
 increment-stays m s address =
     pick-elim (λ (o : Outcome). Stays m s o) (fittingOf (length m) s) _ _
-    (λ h. pick-elim (λ (o : Outcome). Stays m s o) (ltb address (length m / 2)) _ _
-    (λ k. pick-elim (λ (o : Outcome). Stays m s o) (leb (wordOf m (s .second) address) full) _ _
-    (λ l. pick-elim (λ (o : Outcome). Stays m s o) (eqb (wordOf m (s .second) address) full) _ _
-    (λ e. refusal-stays 15 m s)
-    (λ e. record {
+    (λ h. count-elim (λ (o : PageOutcome (Unit {0})). Stays m s (counting s o)) m (s .second) address
+    (λ k. record {
       words = refl;
       length-stays = length-set m (placeOf (length m) (s .second) address) (wordOf m (s .second) address + 1);
       kept = λ e. refl;
       refusal = λ n e. absurd (accepted-not e);
-    }))
-    (λ l. refusal-stays 16 m s))
-    (λ k. refusal-stays 14 m s))
+    })
+    (λ n. refusal-stays n m s))
     (λ h. refusal-stays 13 m s)
 
 -- a flip
@@ -64,16 +63,14 @@ flip-stays m s =
 pub new-stays : (m : List ℕ) (s : State) (number : ℕ) (w : Window) → Stays m s (newMeans m s number w)
 unfolding newMeans
 new-stays m s number w =
-    pick-elim (λ (o : Outcome). Stays m s o) (ltb (lastOf w) (length m / 2)) _ _
-    (λ h. pick-elim (λ (o : Outcome). Stays m s o) (soundOf m (not (s .second)) (cellsOf w)) _ _
-    (λ k. record {
+    take-elim (λ (o : PageOutcome ℕ). Stays m s (taking s number w o)) m (not (s .second)) w
+    (λ h. record {
       words = refl;
       length-stays = walk-length (not (s .second)) (w .clear) (record { memory = m; sum = 0 }) (cellsOf w);
       kept = λ e. absurd (true-is-not-false e);
       refusal = λ n e. absurd (accepted-not e);
     })
-    (λ k. refusal-stays 16 m s))
-    (λ h. refusal-stays 14 m s)
+    (λ n. refusal-stays n m s)
   where
     true-is-not-false : true ≡ false → ⊥
     true-is-not-false e = let z : _≡_ {A = ℕ} 0 1 = cc in omega arith

@@ -1,40 +1,21 @@
 // Histogram memory and numbered asks: counters in two pages of lent words, a state by value, and sums asked for by number.
-mod layout;
-mod turn;
-mod walk;
-
 ghost use mathlib.Core.Bool.{not};
 ghost use mathlib.Core.Path.{_≡_};
-ghost use lib.ListN.{length, replicate};
 ghost use Rattle.ground.specs.Paper.{numberOf};
-ghost use Rattle.histogram.specs.Meaning.{sizedOf, fittingOf, exchanged, keeping, newMeans};
+ghost use Rattle.pages.specs.Answers.{countPaper};
+ghost use Rattle.histogram.specs.Meaning.{countedPaper, fittingOf, exchanged, keeping, newMeans};
 ghost use Rattle.histogram.specs.Answers.{openedPaper, incrementPaper, flipPaper, askPaper};
 ghost use Rattle.histogram.specs.Promise.{OpenPromise, IncrementPromise, FlipPromise, AskPromise, askedOf};
-use layout::place;
+use pages::CountAnswer;
+use pages::Taken;
+pub use pages::Window;
+use pages::clear;
+use pages::count;
+use pages::sized;
+use pages::take;
+pub use turn::Kept;
 use turn::Turn;
 use turn::turn_of;
-use walk::last_cell;
-use walk::sound_rows;
-use walk::walk_rows;
-
-// A window of counters: cells in rows, and whether an ask of it clears them.
-pub struct Window {
-    pub address: u32,
-    pub xsize: u8,
-    pub ysize: u8,
-    pub ystride: u16,
-    pub clear: bool,
-}
-
-// What is kept of the last accepted ask.
-pub enum Kept {
-    Nothing,
-    Last {
-        number: u16,
-        window: Window,
-        sum: u64,
-    },
-}
 
 // The state that goes into each call and comes back: the words of its memory (2N), whether the second page is active, and what is kept.
 pub struct State {
@@ -93,9 +74,6 @@ pub struct Asked {
     pub state: State,
 }
 
-// The count at which a word is full and stays.
-pub const FULL: u32 = 67108863;
-
 // Takes 2N words, sets them all to 0, and answers a state with the first page active and nothing kept.
 pub fn open(memory: &mut [u32]) -> Opened
     ensures { λ r. ⌜ OpenPromise (now (memory .entry)) r (now (memory .exit)) ⌝ }
@@ -104,7 +82,7 @@ pub fn open(memory: &mut [u32]) -> Opened
     if !sized(words) {
         return Opened::WrongMemory;
     }
-    clear_all(memory);
+    clear(memory);
     Opened::Ready(State {
         words,
         second: false,
@@ -116,36 +94,15 @@ pub fn open(memory: &mut [u32]) -> Opened
 pub fn increment(memory: &mut [u32], state: State, address: u32) -> Incremented
     ensures { λ r. ⌜ IncrementPromise (now (memory .entry)) state address r (now (memory .exit)) ⌝ }
 {
-    let words = memory.len();
-    if !fitting(words, state) {
+    if !fitting(memory.len(), state) {
         return Incremented {
             answer: IncrementAnswer::WrongMemory,
             state,
         };
     }
-    if words / 2 <= address as usize {
-        return Incremented {
-            answer: IncrementAnswer::WrongAddress,
-            state,
-        };
-    }
-    let at = place(words, active_page(state), address as usize);
-    let word = memory[at];
-    if FULL < word {
-        return Incremented {
-            answer: IncrementAnswer::AboveFull,
-            state,
-        };
-    }
-    if word == FULL {
-        return Incremented {
-            answer: IncrementAnswer::Full,
-            state,
-        };
-    }
-    memory[at] = word + 1;
+    let counted = count(memory, active_page(state), address);
     Incremented {
-        answer: IncrementAnswer::Counted,
+        answer: increment_answer(counted),
         state,
     }
 }
@@ -231,19 +188,6 @@ pub fn ask_number(a: AskAnswer) -> u8
     }
 }
 
-// Whether a memory may have so many words.
-fn sized(words: usize) -> bool
-    ensures { λ r. ⌜ r ≡ sizedOf words ⌝ }
-{
-    if words % 2 != 0 {
-        return false;
-    }
-    if words < 2 {
-        return false;
-    }
-    words <= 524288
-}
-
 // Whether a memory of so many words is one that the state belongs to.
 fn fitting(words: usize, state: State) -> bool
     ensures { λ r. ⌜ r ≡ fittingOf words state ⌝ }
@@ -280,29 +224,34 @@ fn exchange(state: State) -> State
     }
 }
 
-// Sets every word to 0.
-fn clear_all(memory: &mut [u32])
-    ensures { λ r. ⌜ now (memory .exit) ≡ replicate (length (now (memory .entry))) 0 ⌝ }
+// An increment's answer to what counting answered.
+fn increment_answer(counted: CountAnswer) -> IncrementAnswer
+    ensures { λ r. ⌜ incrementPaper r ≡ countedPaper (countPaper counted) ⌝ }
 {
-    let mut i = 0;
-    while i < memory.len() {
-        memory[i] = 0;
-        i += 1;
+    match counted {
+        CountAnswer::Counted => IncrementAnswer::Counted,
+        CountAnswer::WrongAddress => IncrementAnswer::WrongAddress,
+        CountAnswer::Full => IncrementAnswer::Full,
+        CountAnswer::AboveFull => IncrementAnswer::AboveFull,
     }
 }
 
-// A new ask: refused, or its window walked and its sum kept.
+// A new ask: refused, or its window taken and its sum kept.
 fn new_ask(memory: &mut [u32], state: State, number: u16, window: Window) -> Asked
     ensures { λ r. ⌜ askedOf r (now (memory .exit)) ≡ newMeans (now (memory .entry)) state number window ⌝ }
 {
-    if memory.len() / 2 <= last_cell(window) {
-        return not_asked(AskAnswer::WrongCell, state);
+    let taken = take(memory, idle_page(state), window);
+    match taken {
+        Taken::Sum(sum) => new_sum(state, number, window, sum),
+        Taken::WrongCell => not_asked(AskAnswer::WrongCell, state),
+        Taken::AboveFull => not_asked(AskAnswer::AboveFull, state),
     }
-    let idle = idle_page(state);
-    if !sound_rows(memory, idle, window) {
-        return not_asked(AskAnswer::AboveFull, state);
-    }
-    let sum = walk_rows(memory, idle, window);
+}
+
+// The sum of a new ask, answered and kept.
+fn new_sum(state: State, number: u16, window: Window, sum: u64) -> Asked
+    ensures { λ r. ⌜ (r .answer ≡ AskAnswer.New sum) × (r .state ≡ keeping state number window sum) ⌝ }
+{
     Asked {
         answer: AskAnswer::New { sum },
         state: keep(state, number, window, sum),

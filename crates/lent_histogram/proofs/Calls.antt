@@ -15,7 +15,7 @@ use Rattle.histogram.specs.declared.Flipped.{Flipped}
 use Rattle.histogram.specs.declared.Incremented.{Incremented}
 use Rattle.histogram.specs.declared.Opened.{Opened}
 use Rattle.histogram.specs.declared.State.{State}
-use Rattle.histogram.specs.declared.Window.{Window}
+use Rattle.pages.specs.declared.Window.{Window}
 use Rattle.stored.specs.Answers.{restoredPaper}
 use Rattle.stored.specs.Meaning.{stateOf, storeLeaves}
 use Rattle.stored.specs.Promise.{RestorePromise, StorePromise}

@@ -10,7 +10,7 @@ use Rattle.ground.specs.Paper.{Paper, accepted, refused, refusedWith}
 use Rattle.histogram.specs.Meaning as histogram
 use Rattle.histogram.specs.Meaning.{Outcome, Value, done, new, again, askMeans, flipMeans, incrementMeans, openMeans}
 use Rattle.histogram.specs.declared.State.{State}
-use Rattle.histogram.specs.declared.Window.{Window}
+use Rattle.pages.specs.declared.Window.{Window}
 use Rattle.stored.specs.Meaning.{stateOf, storeLeaves}
 
 -- what an exported call leaves: its answer, the memory, the state's words

@@ -3,21 +3,24 @@
 use mathlib.Core.Bool.{Bool, true, false, not}
 use mathlib.Core.Path.{_≡_, refl, ap, sym, _∙_}
 use mathlib.Core.List.{List, [], _∷_}
-use Prim.Native.Nat.{ℕ, _+_, _/_}
+use Prim.Native.Nat.{ℕ, _+_}
 use native.Mathlib.Omega.{arith}
 use borrow.Author.Tests.{leb-true}
-use lib.Dec.{leb, ltb, eqb}
+use lib.Dec.{leb}
 use lib.ListN.{length}
 use Rattle.ground.specs.Choice.{pick, pick-elim}
 use Rattle.ground.specs.Paper.{Paper, accepted, refused, numberOf}
-use Rattle.histogram.specs.Meaning.{Outcome, askMeans, cellsOf, fittingOf, flipMeans, fresh, full, incrementMeans, lastOf, newMeans, openMeans, sizedOf, soundOf, turnMeans, turnOf, wordOf}
+use Rattle.pages.specs.Meaning.{PageOutcome, sizedOf}
+use Rattle.pages.specs.Outcomes.{take-elim}
+use Rattle.turn.specs.Meaning.{turnOf}
+use Rattle.histogram.specs.Meaning.{Outcome, askMeans, fittingOf, flipMeans, fresh, incrementMeans, newMeans, openMeans, taking, turnMeans}
 use Rattle.histogram.specs.Conservation.{opened-balanced, run-balanced}
 use Rattle.histogram.specs.Runs.{Call, increment, flip, ask, Ledger, answered, opening, run, step, total}
 use Rattle.histogram.specs.Stays.{flip-leaves}
 use Rattle.histogram.specs.declared.State.{State}
-use Rattle.histogram.specs.declared.Window.{Window}
-use Rattle.histogram.specs.declared.turn.Turn.{Turn}
-use Rattle.histogram.specs.declared.turn.Turn.the-variants.{NewAsk, LastAsk, OtherWindow, OutOfTurn}
+use Rattle.pages.specs.declared.Window.{Window}
+use Rattle.turn.specs.declared.Turn.{Turn}
+use Rattle.turn.specs.declared.Turn.the-variants.{NewAsk, LastAsk, OtherWindow, OutOfTurn}
 use Rattle.stored.specs.Forms.{AskFits, KeptFits, held-fits, holds, store-restores}
 use Rattle.stored.specs.Meaning.{stateOf, storeLeaves}
 use Rattle.lent_histogram.specs.Meaning.{Leaves, askLeaves, exported, flipLeaves, incrementLeaves, openLeaves, openedAnswer, openedWords, storing}
@@ -64,17 +67,7 @@ pub record Same (x : Lent) (l : Ledger) : Type 0 where
 -- an increment leaves the state
 increment-state : (m : List ℕ) (s : State) (address : ℕ) → incrementMeans m s address .state ≡ s
 unfolding incrementMeans
-increment-state m s address =
-    pick-elim P (fittingOf (length m) s) _ _
-    (λ h. pick-elim P (ltb address (length m / 2)) _ _
-    (λ k. pick-elim P (leb (wordOf m (s .second) address) full) _ _
-    (λ l. pick-elim P (eqb (wordOf m (s .second) address) full) _ _ (λ e. refl) (λ e. refl))
-    (λ l. refl))
-    (λ k. refl))
-    (λ h. refl)
-  where
-    P : Outcome → Type 0
-    P o = o .state ≡ s
+increment-state m s address = pick-elim (λ (o : Outcome). o .state ≡ s) (fittingOf (length m) s) _ _ (λ h. refl) (λ h. refl)
 
 -- a flip keeps what is kept
 flip-fits : (m : List ℕ) (s : State) → KeptFits (s .kept) → KeptFits (flipMeans m s .state .kept)
@@ -85,9 +78,7 @@ flip-fits m s f = pick-elim (λ (o : Outcome). KeptFits (o .state .kept)) (fitti
 new-fits : (m : List ℕ) (s : State) (number : ℕ) (w : Window) → KeptFits (s .kept) → AskFits number w → KeptFits (newMeans m s number w .state .kept)
 unfolding newMeans
 new-fits m s number w f g =
-    pick-elim (λ (o : Outcome). KeptFits (o .state .kept)) (ltb (lastOf w) (length m / 2)) _ _
-    (λ h. pick-elim (λ (o : Outcome). KeptFits (o .state .kept)) (soundOf m (not (s .second)) (cellsOf w)) _ _ (λ k. g) (λ k. f))
-    (λ h. f)
+    take-elim (λ (o : PageOutcome ℕ). KeptFits (taking s number w o .state .kept)) m (not (s .second)) w (λ h. g) (λ n. f)
 
 -- an ask of any turn
 turn-fits : (t : Turn) (m : List ℕ) (s : State) (number : ℕ) (w : Window) → KeptFits (s .kept) → AskFits number w

@@ -3,16 +3,19 @@
 use mathlib.Core.Bool.{Bool, true, false, not}
 use mathlib.Core.Path.{_≡_, refl, ap, _∙_}
 use mathlib.Core.List.{List}
-use Prim.Native.Nat.{ℕ, _/_}
-use lib.Dec.{leb, ltb, eqb}
+use Prim.Native.Nat.{ℕ}
+use lib.Dec.{leb}
 use lib.ListN.{length, replicate}
 use Rattle.ground.specs.Choice.{pick, pick-elim}
 use Rattle.ground.specs.Paper.{Paper, accepted, refused, refusedWith, numberOf}
-use Rattle.histogram.specs.Meaning.{Outcome, Value, askMeans, cellsOf, fittingOf, flipMeans, fresh, full, incrementMeans, lastOf, newMeans, sizedOf, soundOf, turnMeans, turnOf, wordOf}
+use Rattle.pages.specs.Meaning.{PageOutcome, sizedOf}
+use Rattle.pages.specs.Outcomes.{count-elim, take-elim}
+use Rattle.turn.specs.Meaning.{turnOf}
+use Rattle.histogram.specs.Meaning.{Outcome, Value, askMeans, counting, fittingOf, flipMeans, fresh, incrementMeans, newMeans, taking, turnMeans}
 use Rattle.histogram.specs.declared.State.{State}
-use Rattle.histogram.specs.declared.Window.{Window}
-use Rattle.histogram.specs.declared.turn.Turn.{Turn}
-use Rattle.histogram.specs.declared.turn.Turn.the-variants.{NewAsk, LastAsk, OtherWindow, OutOfTurn}
+use Rattle.pages.specs.declared.Window.{Window}
+use Rattle.turn.specs.declared.Turn.{Turn}
+use Rattle.turn.specs.declared.Turn.the-variants.{NewAsk, LastAsk, OtherWindow, OutOfTurn}
 use Rattle.stored.specs.Forms.{store-same}
 use Rattle.stored.specs.Meaning.{stateOf, storeLeaves}
 use Rattle.lent_histogram.specs.Meaning.{Leaves, againOf, askLeaves, exported, flipLeaves, incrementLeaves, openLeaves, openedAnswer, openedWords, sumOf}
@@ -27,11 +30,7 @@ increment-quiet : (m : List ℕ) (s : State) (address : ℕ) → Quiet m s (incr
 unfolding incrementMeans
 increment-quiet m s address =
     pick-elim (Quiet m s) (fittingOf (length m) s) _ _
-    (λ h. pick-elim (Quiet m s) (ltb address (length m / 2)) _ _
-    (λ k. pick-elim (Quiet m s) (leb (wordOf m (s .second) address) full) _ _
-    (λ l. pick-elim (Quiet m s) (eqb (wordOf m (s .second) address) full) _ _ (λ e d. (refl, refl)) (λ e d. absurd (d refl)))
-    (λ l d. (refl, refl)))
-    (λ k d. (refl, refl)))
+    (λ h. count-elim (λ (o : PageOutcome (Unit {0})). Quiet m s (counting s o)) m (s .second) address (λ k d. absurd (d refl)) (λ n d. (refl, refl)))
     (λ h d. (refl, refl))
 
 -- a flip
@@ -43,9 +42,7 @@ flip-quiet m s = pick-elim (Quiet m s) (fittingOf (length m) s) _ _ (λ h d. abs
 new-quiet : (m : List ℕ) (s : State) (number : ℕ) (w : Window) → Quiet m s (newMeans m s number w)
 unfolding newMeans
 new-quiet m s number w =
-    pick-elim (Quiet m s) (ltb (lastOf w) (length m / 2)) _ _
-    (λ h. pick-elim (Quiet m s) (soundOf m (not (s .second)) (cellsOf w)) _ _ (λ k d. absurd (d refl)) (λ k d. (refl, refl)))
-    (λ h d. (refl, refl))
+    take-elim (λ (o : PageOutcome ℕ). Quiet m s (taking s number w o)) m (not (s .second)) w (λ h d. absurd (d refl)) (λ n d. (refl, refl))
 
 -- an ask of any turn
 turn-quiet : (t : Turn) (m : List ℕ) (s : State) (number : ℕ) (w : Window) → Quiet m s (turnMeans t m s number w)

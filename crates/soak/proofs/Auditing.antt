@@ -12,12 +12,14 @@ use lib.Dec.{leb, eqb}
 use borrow.Author.Tests.{eq-eqb, leb-true}
 use Rattle.ground.specs.Paper.{accepted}
 use Rattle.histogram.specs.Answers.{askBack, ask-home}
-use Rattle.histogram.specs.Meaning.{Outcome, again, askMeans, fittingOf, sameFlag, sizedOf}
+use Rattle.pages.specs.Meaning.{sizedOf}
+use Rattle.turn.specs.Meaning.{sameFlag}
+use Rattle.histogram.specs.Meaning.{Outcome, again, askMeans, fittingOf}
 use Rattle.histogram.specs.Promise.{AskPromise}
 use Rattle.histogram.specs.Repeat.{flag-same, kept-again}
 use Rattle.histogram.specs.Runs.{total}
-use Rattle.histogram.specs.declared.Window.{Window}
-use Rattle.histogram.specs.declared.Kept.{Kept}
+use Rattle.pages.specs.declared.Window.{Window}
+use Rattle.turn.specs.declared.Kept.{Kept}
 use Rattle.histogram.specs.declared.State.{State}
 use Rattle.histogram.specs.declared.Asked.{Asked}
 use Rattle.histogram.specs.declared.AskAnswer.{AskAnswer}

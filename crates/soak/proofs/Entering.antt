@@ -11,13 +11,14 @@ use Rattle.ground.specs.Paper.{Paper, accepted}
 use Rattle.histogram.specs.Answers.{askPaper, flipPaper, incrementPaper, openedPaper}
 use Rattle.histogram.specs.Conservation.{call-conserves, opened-balanced}
 use Rattle.histogram.specs.Fresh.{is-opened, opened-fits}
-use Rattle.histogram.specs.Meaning.{Value, new, fittingOf, openMeans, sizedOf}
+use Rattle.pages.specs.Meaning.{sizedOf}
+use Rattle.histogram.specs.Meaning.{Value, new, fittingOf, openMeans}
 use Rattle.histogram.specs.Promise.{AskPromise, FlipPromise, IncrementPromise, OpenPromise}
 use Rattle.histogram.specs.Repeat.{is-new}
 use Rattle.histogram.specs.Runs.{Call, increment, flip, ask, acceptedBy, callMeans, clearedBy, isNew, total}
 use Rattle.histogram.specs.Stays.{call-stays, flip-leaves}
-use Rattle.histogram.specs.declared.Window.{Window}
-use Rattle.histogram.specs.declared.Kept.{Kept}
+use Rattle.pages.specs.declared.Window.{Window}
+use Rattle.turn.specs.declared.Kept.{Kept}
 use Rattle.histogram.specs.declared.State.{State}
 use Rattle.histogram.specs.declared.Opened.{Opened}
 use Rattle.histogram.specs.declared.Incremented.{Incremented}

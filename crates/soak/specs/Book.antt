@@ -9,8 +9,8 @@ use lib.ListN.{length}
 use Rattle.ground.specs.Choice.{pick}
 use Rattle.histogram.specs.Meaning.{fittingOf}
 use Rattle.histogram.specs.Runs.{total}
-use Rattle.histogram.specs.declared.Window.{Window}
-use Rattle.histogram.specs.declared.Kept.{Kept}
+use Rattle.pages.specs.declared.Window.{Window}
+use Rattle.turn.specs.declared.Kept.{Kept}
 use Rattle.histogram.specs.declared.AskAnswer.{AskAnswer}
 use Rattle.histogram.specs.declared.IncrementAnswer.{IncrementAnswer}
 use Rattle.soak.specs.declared.book.Book.{Book}

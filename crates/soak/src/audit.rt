@@ -4,7 +4,7 @@ ghost use mathlib.Core.Bool.{Bool};
 ghost use Prim.Native.Nat.{_≤_, _<_, _*_};
 ghost use lib.Dec.{eqb};
 ghost use lib.ListN.{length};
-ghost use Rattle.histogram.specs.Meaning.{sameFlag};
+ghost use Rattle.turn.specs.Meaning.{sameFlag};
 ghost use Rattle.histogram.specs.Runs.{total};
 ghost use Rattle.soak.specs.Book.{Holds, againOf};
 use crate::book::Book;

@@ -11,9 +11,9 @@ use lib.ListN.{length, getD, take, drop, length-append, take-append-drop}
 use lib.Seq.{drop-cons}
 use Rattle.ground.specs.Choice.{pick-elim}
 use Rattle.ground.specs.Paper.{Paper, accepted, refused}
-use Rattle.histogram.specs.declared.Window.{Window}
-use Rattle.histogram.specs.declared.Kept.{Kept}
-use Rattle.histogram.specs.declared.Kept.the-variants.{Nothing, Last}
+use Rattle.pages.specs.declared.Window.{Window}
+use Rattle.turn.specs.declared.Kept.{Kept}
+use Rattle.turn.specs.declared.Kept.the-variants.{Nothing, Last}
 use Rattle.histogram.specs.declared.State.{State}
 use Rattle.stored.specs.Meaning.{flagOf, formIn, formWith, listOf, soundOf, stateIn, stateOf, storeLeaves, windowIn, wordsOf}
 use Rattle.stored.specs.Ranges.{Sound, sound-means}

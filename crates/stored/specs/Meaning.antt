@@ -7,8 +7,8 @@ use lib.Dec.{leb, eqb}
 use lib.ListN.{length, getD, drop}
 use Rattle.ground.specs.Choice.{pick}
 use Rattle.ground.specs.Paper.{Paper, accepted, refused}
-use Rattle.histogram.specs.declared.Window.{Window}
-use Rattle.histogram.specs.declared.Kept.{Kept}
+use Rattle.pages.specs.declared.Window.{Window}
+use Rattle.turn.specs.declared.Kept.{Kept}
 use Rattle.histogram.specs.declared.State.{State}
 use Rattle.stored.specs.declared.form.Form.{Form}
 

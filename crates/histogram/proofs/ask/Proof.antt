@@ -3,7 +3,7 @@
 use mathlib.Core.Path.{refl}
 use borrow.Author.Needs.{needs}
 use Rattle.histogram.proofs.Asking.{asked13, asked, asked-still}
-use Rattle.histogram.proofs.Tested.{refused, passed}
+use Rattle.pages.proofs.Tested.{refused, passed}
 use Rattle.histogram.proofs.ask.Statement.{statement}
 use Rattle.histogram.proofs.ask.Tie as tie
 
@@ -55,7 +55,7 @@ returns-2 c =
     asked (a .memory .now) (a .state) (a .number) (a .window)
     (passed (c .before .before .before .before .before .before .before .before .fitting .ensures)
     (c .before .before .before .before .before .before .before .if1 .left))
-    (c .before .before .before .before .before .before .turn-of .ensures) (c .before .before .before .before .enum-told .given .1) _ _
+    (c .before .before .before .before .before .before .turn-of .ensures .answer) (c .before .before .before .before .enum-told .given .1) _ _
     (c .before .before .new-ask .ensures)
 
 returns-3 : tie.Need-returns-3
@@ -63,21 +63,21 @@ returns-3 c =
     let a = c .before .before .before .before .before .before .before .before .args in
     asked-still (a .memory .now) (a .state) (a .number) (a .window)
     (passed (c .before .before .before .before .before .before .fitting .ensures) (c .before .before .before .before .before .if1 .left))
-    (c .before .before .before .before .turn-of .ensures) (c .before .before .turn .given .1) _ _ (c .again .ensures) refl
+    (c .before .before .before .before .turn-of .ensures .answer) (c .before .before .turn .given .1) _ _ (c .again .ensures) refl
 
 returns-4 : tie.Need-returns-4
 returns-4 c =
     let a = c .before .before .before .before .before .before .before .args in
     asked-still (a .memory .now) (a .state) (a .number) (a .window)
     (passed (c .before .before .before .before .before .fitting .ensures) (c .before .before .before .before .if1 .left))
-    (c .before .before .before .turn-of .ensures) (c .before .enum-told2 .given .1) _ _ (c .not-asked2 .ensures) refl
+    (c .before .before .before .turn-of .ensures .answer) (c .before .enum-told2 .given .1) _ _ (c .not-asked2 .ensures) refl
 
 returns-5 : tie.Need-returns-5
 returns-5 c =
     let a = c .before .before .before .before .before .before .before .args in
     asked-still (a .memory .now) (a .state) (a .number) (a .window)
     (passed (c .before .before .before .before .before .fitting .ensures) (c .before .before .before .before .if1 .left))
-    (c .before .before .before .turn-of .ensures) (c .before .enum-told3 .given .1) _ _ (c .not-asked3 .ensures) refl
+    (c .before .before .before .turn-of .ensures .answer) (c .before .enum-told3 .given .1) _ _ (c .not-asked3 .ensures) refl
 
 pub ask-spec : {M : Type 1} → statement M
 ask-spec =

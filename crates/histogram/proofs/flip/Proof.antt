@@ -2,7 +2,7 @@
 -- Assumes nothing.
 use borrow.Author.Needs.{needs}
 use Rattle.histogram.proofs.Flipping.{flips13, flips}
-use Rattle.histogram.proofs.Tested.{refused, passed}
+use Rattle.pages.proofs.Tested.{refused, passed}
 use Rattle.histogram.proofs.flip.Statement.{statement}
 use Rattle.histogram.proofs.flip.Tie as tie
 

@@ -1,0 +1,9 @@
+pub mod Layout
+pub mod Meaning
+pub mod Answers
+pub mod Promise
+pub mod OneOutcome
+pub mod Outcomes
+pub mod Cells
+pub mod Words
+pub mod Walks

@@ -1,0 +1,35 @@
+-- What each public call promises of its answer and the memory at exit: one record a call.
+-- Assumes nothing.
+use mathlib.Core.Bool.{Bool}
+use mathlib.Core.Path.{_≡_}
+use mathlib.Core.List.{List}
+use Prim.Native.Nat.{ℕ}
+use lib.ListN.{length, replicate}
+use Rattle.pages.specs.Meaning.{checkMeans, countMeans, sizedOf, takeMeans}
+use Rattle.pages.specs.Answers.{checkedPaper, countPaper, takenPaper}
+use Rattle.pages.specs.declared.Window.{Window}
+use Rattle.pages.specs.declared.CountAnswer.{CountAnswer}
+use Rattle.pages.specs.declared.Checked.{Checked}
+use Rattle.pages.specs.declared.Taken.{Taken}
+
+-- what the size rule promises
+pub record SizedPromise (words : ℕ) (r : Bool) : Type 0 where
+  pub answer : r ≡ sizedOf words
+
+-- what clearing promises: "sets all to 0"
+pub record ClearPromise (before after : List ℕ) : Type 0 where
+  pub memory : after ≡ replicate (length before) 0
+
+-- what counting promises
+pub record CountPromise (before : List ℕ) (page : Bool) (address : ℕ) (r : CountAnswer) (after : List ℕ) : Type 0 where
+  pub answer : countPaper r ≡ countMeans before page address .answer
+  pub memory : after ≡ countMeans before page address .memory
+
+-- what checking a window promises; the memory is lent unchangeable
+pub record CheckPromise (before : List ℕ) (page : Bool) (w : Window) (r : Checked) : Type 0 where
+  pub answer : checkedPaper r ≡ checkMeans before page w
+
+-- what taking a window promises
+pub record TakePromise (before : List ℕ) (page : Bool) (w : Window) (r : Taken) (after : List ℕ) : Type 0 where
+  pub answer : takenPaper r ≡ takeMeans before page w .answer
+  pub memory : after ≡ takeMeans before page w .memory
