@@ -254,7 +254,15 @@ fn new_sum(state: State, number: u16, window: Window, sum: u64) -> Asked
 {
     Asked {
         answer: AskAnswer::New { sum },
-        state: keep(state, number, window, sum),
+        state: State {
+            words: state.words,
+            second: state.second,
+            kept: Kept::Last {
+                number,
+                window,
+                sum,
+            },
+        },
     }
 }
 
@@ -272,20 +280,5 @@ fn again(state: State, sum: u64) -> Asked
     Asked {
         answer: AskAnswer::Again { sum },
         state,
-    }
-}
-
-// The state with an accepted ask's number, window and sum kept.
-fn keep(state: State, number: u16, window: Window, sum: u64) -> State
-    ensures { λ r. ⌜ r ≡ keeping state number window sum ⌝ }
-{
-    State {
-        words: state.words,
-        second: state.second,
-        kept: Kept::Last {
-            number,
-            window,
-            sum,
-        },
     }
 }
