@@ -23,6 +23,8 @@ pub use Rattle.cadence.specs.OneOutcome.{seconds-one, beginning-one, ending-one
 pub use Rattle.rate.specs.OneOutcome.{reading-one, rate-one, counted-number-one, rated-number-one, refusal-number-one}
 -- histogram memory
 pub use Rattle.histogram.specs.OneOutcome.{open-one, increment-one, flip-one, ask-one, open-number-one, increment-number-one, flip-number-one, ask-number-one}
+-- text put into a room
+pub use Rattle.text.specs.OneOutcome.{text-one, number-one}
 -- the code program's lines
 pub use Rattle.lines.specs.OneOutcome.{fresh-one, taken-one, header-one as lines-header-one, put-answer-one, run-one}
 -- what the code program prints with

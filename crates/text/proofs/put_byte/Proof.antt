@@ -1,12 +1,12 @@
--- `lines::put_byte` meets its contract.
+-- `text::put_byte` meets its contract.
 -- Assumes nothing.
 use mathlib.Core.Path.{refl}
-use Rattle.lines.proofs.Texts.{put-one}
+use Rattle.text.proofs.Texts.{put-one}
 use borrow.Author.Needs.{needs}
-use Rattle.lines.proofs.text.put_byte.Statement.{statement}
-use Rattle.lines.proofs.text.put_byte.Tie as tie
-use Rattle.lines.proofs.text.put_byte.Reads as reads
-use Rattle.lines.proofs.text.put_byte.Lts as lts
+use Rattle.text.proofs.put_byte.Statement.{statement}
+use Rattle.text.proofs.put_byte.Tie as tie
+use Rattle.text.proofs.put_byte.Reads as reads
+use Rattle.text.proofs.put_byte.Lts as lts
 
 slice-write-room : tie.Need-slice-write-room
 slice-write-room c = search needs

@@ -1,4 +1,4 @@
--- `lines::put_number` meets its contract.
+-- `text::put_ruled` meets its contract.
 -- Assumes nothing.
 use mir.Syntax.{w32}
 use mir.ValLaws.{toZ-ofZ}
@@ -8,15 +8,15 @@ use Prim.Native.Nat.{ℕ, _≤_}
 use lib.IntN.{natAbs}
 use Rattle.code.specs.Meaning.{largest}
 use Rattle.code.specs.Shapes.{none, three}
-use Rattle.lines.proofs.Texts.{number-put}
+use Rattle.text.proofs.Texts.{number-put}
 use borrow.Author.Needs.{needs}
-use Rattle.lines.proofs.text.put_number.Statement.{statement}
-use Rattle.lines.proofs.text.put_number.Tie as tie
-use Rattle.lines.proofs.text.put_number.Reads as reads
-use Rattle.lines.proofs.text.put_number.Lts as lts
-use Rattle.lines.proofs.text.put_byte.Reads as put-byte-reads
-use Rattle.lines.proofs.text.put_spaced.Reads as put-spaced-reads
-use Rattle.lines.proofs.text.put_value.Reads as put-value-reads
+use Rattle.text.proofs.put_ruled.Statement.{statement}
+use Rattle.text.proofs.put_ruled.Tie as tie
+use Rattle.text.proofs.put_ruled.Reads as reads
+use Rattle.text.proofs.put_ruled.Lts as lts
+use Rattle.text.proofs.put_byte.Reads as put-byte-reads
+use Rattle.text.proofs.put_spaced.Reads as put-spaced-reads
+use Rattle.text.proofs.put_value.Reads as put-value-reads
 
 put-value-requires : tie.Need-put-value-requires
 put-value-requires c κs = search needs
@@ -36,8 +36,8 @@ same-length c = search needs
 returns : tie.Need-returns
 returns c = number-put _ (c .before .before .before .before .before .before .before .before .before .before .before .before .before .before .before .before .before .args .v) (toZ-ofZ w32 (c .before .before .before .before .before .before .before .before .before .before .before .before .before .before .before .before .before .args .v) (c .before .before .before .before .before .before .before .before .before .before .before .before .before .before .before .before .before .fits .v)) (omega (arith, c .before .before .before .before .before .before .before .before .before .before .before .before .before .before .before .before .before .pre .0)) (c .before .before .before .before .before .before .before .before .before .before .before .before .before .before .put-value .ensures .0) (c .before .before .before .before .before .before .before .before .before .before .put-spaced .ensures .0) (c .before .before .before .before .before .before .put-spaced2 .ensures .0) (c .before .before .put-byte .ensures .0)
 
-pub put-number-spec : {M : Type 1} → statement M
-put-number-spec =
+pub put-ruled-spec : {M : Type 1} → statement M
+put-ruled-spec =
     tie.close
     (tie.spec
     put-value-requires

@@ -17,7 +17,7 @@ use Rattle.code.specs.Meaning.{Shape, nought, small, mid, big, bits, codeOf, sh
 use Rattle.code.specs.BitLists.{length-toBits}
 use Rattle.code.specs.Shapes.{Drop, Valid, none, three}
 use Rattle.code.specs.Magnitudes.{number-valid}
-use Rattle.lines.specs.Meaning.{shortest, valueText, codeText}
+use Rattle.text.specs.Meaning.{shortest, valueText, codeText, numberText}
 
 -- the text was put from a place on, and the place after it is answered
 pub record Put (room : List ℕ) (at : ℕ) (text : List ℕ) (next : ℕ) (after : List ℕ) : Type 0 where
@@ -96,3 +96,17 @@ pub value-few : (v : ℤ) → length (valueText v) ≤ 9
 value-few v =
     pick-elim (λ (l : List ℕ). length l ≤ 9) (eqb (signOf v) 1) _ _ (λ e. omega (arith, shortest-few 8 (natAbs v)))
     (λ e. omega (arith, shortest-few 8 (natAbs v)))
+
+-- a number's line is at most 66 bytes long
+pub number-few : (v : ℤ) → natAbs v ≤ largest → length (numberText v) ≤ 66
+number-few v h =
+    let tail : List ℕ = 32 ∷ (codeText 3 v ++ (10 ∷ [])) in
+    omega (
+      arith,
+      value-few v,
+      code-text-few 0 v none h,
+      code-text-few 3 v three h,
+      length-append (valueText v) (32 ∷ (codeText 0 v ++ tail)),
+      length-append (codeText 0 v) tail,
+      length-append (codeText 3 v) (10 ∷ []),
+    )

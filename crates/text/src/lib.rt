@@ -1,21 +1,64 @@
-// Text put into a room: bytes, a number in shortest decimal, a code in digits 0 and 1.
+// Text put into a room at a place: bytes, and a number's line: the value in shortest decimal, and both codes in digits 0 and 1.
 ghost use mathlib.Core.Path.{_≡_};
 ghost use mathlib.Core.List.{_∷_, [], map};
 ghost use Prim.Native.Nat.{_+_, _*_, _/_, _-_, _%_, _^_, _≤_, _<_};
+ghost use lib.Dec.{leb};
 ghost use lib.IntN.{natAbs};
 ghost use lib.ListN.{length, take};
 ghost use Rattle.ground.specs.Bits.{bitsOf};
-ghost use Rattle.ground.specs.Putting.{put};
 ghost use Rattle.code.specs.Answers.{packedPaper};
 ghost use Rattle.code.specs.Meaning.{largest};
 ghost use Rattle.code.specs.Shapes.{Drop};
-ghost use Rattle.lines.specs.Meaning.{shortest, codeText, valueText, numberText};
-ghost use Rattle.lines.specs.Running.{enough};
-ghost use Rattle.lines.specs.Texts.{Put, nextOf};
+ghost use Rattle.text.specs.Meaning.{enough, shortest, codeText, valueText, numberText};
+ghost use Rattle.text.specs.Promise.{NumberPromise, TextPromise};
+ghost use Rattle.text.specs.Texts.{Put, nextOf};
 use code::Packed;
 
-// Puts a number's line: the value and both codes.
-pub(crate) fn put_number(room: &mut [u8], at: usize, v: i32) -> usize
+// The room that any number's line fits.
+pub const ENOUGH: usize = 80;
+
+// The largest magnitude of a number that has a line.
+pub const LARGEST: u32 = 33554431;
+
+// Puts text into a room from a place on, and answers the place after it; where it does not fit nothing, and the place itself.
+pub fn put_text(room: &mut [u8], at: usize, text: &[u8]) -> usize
+    ensures { λ r. ⌜ TextPromise (now (room .entry)) at (now (text .entry)) r (now (room .exit)) ⌝ }
+{
+    if has_room(room.len(), at, text.len()) {
+        put_bytes(room, at, text)
+    } else {
+        at
+    }
+}
+
+// Puts a number's line into a room from a place on, and answers the place after it; where fewer than ENOUGH bytes are left, or
+// the number is out of range, nothing, and the place itself.
+pub fn put_number(room: &mut [u8], at: usize, v: i32) -> usize
+    ensures { λ r. ⌜ NumberPromise (now (room .entry)) at v r (now (room .exit)) ⌝ }
+{
+    if LARGEST < code::magnitude(v) {
+        return at;
+    }
+    if has_room(room.len(), at, ENOUGH) {
+        put_ruled(room, at, v)
+    } else {
+        at
+    }
+}
+
+// Whether a room of a size has so many bytes from a place on.
+fn has_room(size: usize, at: usize, count: usize) -> bool
+    ensures { λ r. ⌜ r ≡ leb (at + count) size ⌝ }
+{
+    if at <= size {
+        count <= size - at
+    } else {
+        false
+    }
+}
+
+// Puts the line of a number in range: the value and both codes.
+fn put_ruled(room: &mut [u8], at: usize, v: i32) -> usize
     requires { ⌜ (at + enough ≤ length (now room)) × (natAbs v ≤ largest) ⌝ }
     ensures { λ r. ⌜ Put (now (room .entry)) at (numberText v) r (now (room .exit)) ⌝ }
 {
@@ -56,8 +99,8 @@ fn put_byte(room: &mut [u8], at: usize, byte: u8) -> usize
     at + 1
 }
 
-// Puts text into a room from a place on, and answers the place after it.
-pub(crate) fn put_text(room: &mut [u8], at: usize, text: &[u8]) -> usize
+// Puts text that fits, and answers the place after it.
+fn put_bytes(room: &mut [u8], at: usize, text: &[u8]) -> usize
     requires { ⌜ at + length (now text) ≤ length (now room) ⌝ }
     ensures { λ r. ⌜ Put (now (room .entry)) at (now (text .entry)) r (now (room .exit)) ⌝ }
 {
@@ -76,7 +119,7 @@ fn put_decimal(room: &mut [u8], at: usize, n: u32) -> usize
 {
     let mut text = [0u8; 20];
     let count = io::decimal(n as u64, &mut text);
-    put_text(room, at, &text[..count])
+    put_bytes(room, at, &text[..count])
 }
 
 // Puts the code of a number in digits 0 and 1.

@@ -1,13 +1,13 @@
--- `lines::put_text` meets its contract. The loop's invariant: the bytes passed are copied.
+-- `text::put_bytes` meets its contract. The loop's invariant: the bytes passed are copied.
 -- Assumes nothing.
 use Prim.Native.Nat.{_-_}
 use mathlib.Core.Path.{refl}
 use borrow.Author.Needs.{needs}
 use lib.ListN.{length, getD}
 use Rattle.ground.specs.Putting.{Copied, copied-none, copied-more}
-use Rattle.lines.proofs.Texts.{put-all}
-use Rattle.lines.proofs.text.put_text.Statement.{statement}
-use Rattle.lines.proofs.text.put_text.Tie as tie
+use Rattle.text.proofs.Texts.{put-all}
+use Rattle.text.proofs.put_bytes.Statement.{statement}
+use Rattle.text.proofs.put_bytes.Tie as tie
 
 abbrev Inv-loop : tie.InvT-loop
 Inv-loop room₀ at text i₀ room i = Copied room₀ at text room i
@@ -46,8 +46,8 @@ same-length c = c .before .loop .inv .long
 returns : tie.Need-returns Inv-loop μ-loop
 returns c = put-all (c .before .loop .inv) (search needs)
 
-pub put-text-spec : {M : Type 1} → statement M
-put-text-spec =
+pub put-bytes-spec : {M : Type 1} → statement M
+put-bytes-spec =
     tie.close
     (tie.spec
     Inv-loop

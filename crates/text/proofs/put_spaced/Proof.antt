@@ -1,16 +1,16 @@
--- `lines::put_spaced` meets its contract.
+-- `text::put_spaced` meets its contract.
 -- Assumes nothing.
 use mir.Syntax.{w32}
 use mir.ValLaws.{toZ-ofZ}
 use native.Mathlib.Omega.{arith}
-use Rattle.lines.proofs.Texts.{spaced-put}
+use Rattle.text.proofs.Texts.{spaced-put}
 use borrow.Author.Needs.{needs}
-use Rattle.lines.proofs.text.put_spaced.Statement.{statement}
-use Rattle.lines.proofs.text.put_spaced.Tie as tie
-use Rattle.lines.proofs.text.put_spaced.Reads as reads
-use Rattle.lines.proofs.text.put_spaced.Lts as lts
-use Rattle.lines.proofs.text.put_byte.Reads as put-byte-reads
-use Rattle.lines.proofs.text.put_code.Reads as put-code-reads
+use Rattle.text.proofs.put_spaced.Statement.{statement}
+use Rattle.text.proofs.put_spaced.Tie as tie
+use Rattle.text.proofs.put_spaced.Reads as reads
+use Rattle.text.proofs.put_spaced.Lts as lts
+use Rattle.text.proofs.put_byte.Reads as put-byte-reads
+use Rattle.text.proofs.put_code.Reads as put-code-reads
 
 put-byte-requires : tie.Need-put-byte-requires
 put-byte-requires c κs = search needs

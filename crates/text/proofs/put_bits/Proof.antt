@@ -1,13 +1,13 @@
--- `lines::put_bits` meets its contract. The loop's invariant: the bits passed are put.
+-- `text::put_bits` meets its contract. The loop's invariant: the bits passed are put.
 -- Assumes nothing.
 use Prim.Native.Nat.{ℕ, _+_, _-_}
 use mathlib.Core.Path.{refl, ap, _∙_}
 use native.Mathlib.Omega.{arith}
 use borrow.Author.Needs.{needs}
 use Rattle.ground.specs.Putting.{Copied, copied-none, copied-more}
-use Rattle.lines.proofs.Texts.{bitText, bit-length, bit-at, put-all}
-use Rattle.lines.proofs.text.put_bits.Statement.{statement}
-use Rattle.lines.proofs.text.put_bits.Tie as tie
+use Rattle.text.proofs.Texts.{bitText, bit-length, bit-at, put-all}
+use Rattle.text.proofs.put_bits.Statement.{statement}
+use Rattle.text.proofs.put_bits.Tie as tie
 
 abbrev Inv-loop : tie.InvT-loop
 Inv-loop room₀ at bytes count i₀ room i = Copied room₀ at (bitText bytes count) room i

@@ -1,19 +1,19 @@
--- `lines::put_value` meets its contract.
+-- `text::put_value` meets its contract.
 -- Assumes nothing.
 use mir.Syntax.{w32}
 use mir.ValLaws.{toZ-ofZ}
 use native.Mathlib.Omega.{arith}
-use Rattle.lines.proofs.Texts.{value-minus, value-plus}
-use Rattle.lines.proofs.Texts.{few-digits}
+use Rattle.text.proofs.Texts.{value-minus, value-plus}
+use Rattle.text.proofs.Texts.{few-digits}
 use borrow.Author.Needs.{needs}
-use Rattle.lines.proofs.text.put_value.Statement.{statement}
-use Rattle.lines.proofs.text.put_value.Tie as tie
-use Rattle.lines.proofs.text.put_value.Reads as reads
-use Rattle.lines.proofs.text.put_value.Lts as lts
+use Rattle.text.proofs.put_value.Statement.{statement}
+use Rattle.text.proofs.put_value.Tie as tie
+use Rattle.text.proofs.put_value.Reads as reads
+use Rattle.text.proofs.put_value.Lts as lts
 use Rattle.code.proofs.magnitude.Reads as magnitude-reads
 use Rattle.code.proofs.sign.Reads as sign-reads
-use Rattle.lines.proofs.text.put_byte.Reads as put-byte-reads
-use Rattle.lines.proofs.text.put_decimal.Reads as put-decimal-reads
+use Rattle.text.proofs.put_byte.Reads as put-byte-reads
+use Rattle.text.proofs.put_decimal.Reads as put-decimal-reads
 
 sign-requires : tie.Need-sign-requires
 sign-requires c κs = search needs

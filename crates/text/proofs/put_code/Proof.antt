@@ -1,17 +1,17 @@
--- `lines::put_code` meets its contract.
+-- `text::put_code` meets its contract.
 -- Assumes nothing.
 use mathlib.Core.Path.{refl}
 use mir.Syntax.{w32}
 use mir.ValLaws.{toZ-ofZ}
-use Rattle.lines.proofs.Texts.{code-asks, code-put}
+use Rattle.text.proofs.Texts.{code-asks, code-put}
 use borrow.Author.Needs.{needs}
-use Rattle.lines.proofs.text.put_code.Statement.{statement}
-use Rattle.lines.proofs.text.put_code.Tie as tie
-use Rattle.lines.proofs.text.put_code.Reads as reads
-use Rattle.lines.proofs.text.put_code.Lts as lts
+use Rattle.text.proofs.put_code.Statement.{statement}
+use Rattle.text.proofs.put_code.Tie as tie
+use Rattle.text.proofs.put_code.Reads as reads
+use Rattle.text.proofs.put_code.Lts as lts
 use Rattle.code.proofs.pack.Reads as pack-reads
-use Rattle.lines.proofs.text.next_of.Reads as next-of-reads
-use Rattle.lines.proofs.text.put_bits.Reads as put-bits-reads
+use Rattle.text.proofs.next_of.Reads as next-of-reads
+use Rattle.text.proofs.put_bits.Reads as put-bits-reads
 
 slice-aggregate-pack : tie.Need-slice-aggregate-pack
 slice-aggregate-pack c = search needs

@@ -25,8 +25,8 @@ use Rattle.code.specs.Magnitudes.{number-valid}
 use Rattle.code.specs.Theorems.{packs, put-stands, allBits-shape}
 use Rattle.code.specs.declared.Packed.{Packed}
 use Rattle.io.specs.Digits.{glyph, digits, Fewest}
-use Rattle.lines.specs.Meaning.{shortest, valueText, codeText, numberText}
-use Rattle.lines.specs.Texts.{Put, put-then, put-fits, put-ends, nextOf, code-few, code-text-few, value-few}
+use Rattle.text.specs.Meaning.{shortest, valueText, codeText, numberText}
+use Rattle.text.specs.Texts.{Put, put-then, put-fits, put-ends, nextOf, code-few, code-text-few, value-few}
 
 -- the digits of the first bits of bytes
 abbrev pub bitText : List ℕ → ℕ → List ℕ
