@@ -1,6 +1,9 @@
-// The script: letters and numbers read from bytes.
-ghost use Prim.Native.Nat.{_+_, _≤_, _<_};
-ghost use lib.ListN.{length};
+// The script of a soak: letters and numbers read from bytes.
+ghost use mathlib.Core.Path.{_≡_};
+ghost use Prim.Native.Nat.{_≤_};
+ghost use lib.ListN.{drop};
+ghost use Rattle.script.specs.Meaning.{askRead, digitOf, digitsFrom, pastSpaces, withDigit};
+ghost use Rattle.script.specs.Promise.{NumberPromise, OpenPromise, OrderPromise};
 use histogram::Window;
 
 // A call that the script orders, or a byte that is passed over.
@@ -23,26 +26,30 @@ pub struct Number {
     pub next: usize,
 }
 
-// The place of the next letter o, or the end.
+// The place of the next letter o, or the end; a place past the end stays.
 pub fn next_open(text: &[u8], from: usize) -> usize
-    requires { ⌜ from ≤ length (now text) ⌝ }
-    ensures { λ r. ⌜ (from ≤ r) × (r ≤ length (now (text .entry))) ⌝ }
+    ensures { λ r. ⌜ OpenPromise (now (text .entry)) from r ⌝ }
 {
-    let mut at = from;
-    while at < text.len() {
-        if text[at] == b'o' {
-            return at;
+    let mut place = from;
+    while place < text.len() {
+        if text[place] == b'o' {
+            return place;
         }
-        at += 1;
+        place += 1;
     }
-    at
+    place
 }
 
-// The order at a place.
+// The order at a place; past the end nothing, and the place itself.
 pub fn read_order(text: &[u8], at: usize) -> Read
-    requires { ⌜ at < length (now text) ⌝ }
-    ensures { λ r. ⌜ (at < r .next) × (r .next ≤ length (now (text .entry))) ⌝ }
+    ensures { λ r. ⌜ OrderPromise (now (text .entry)) at r ⌝ }
 {
+    if text.len() <= at {
+        return Read {
+            order: Order::Pass,
+            next: at,
+        };
+    }
     let letter = text[at];
     if letter == b'i' {
         let address = read_number(text, at + 1);
@@ -70,8 +77,7 @@ pub fn read_order(text: &[u8], at: usize) -> Read
 
 // An ask's six numbers.
 fn read_ask(text: &[u8], at: usize) -> Read
-    requires { ⌜ at ≤ length (now text) ⌝ }
-    ensures { λ r. ⌜ (at ≤ r .next) × (r .next ≤ length (now (text .entry))) ⌝ }
+    ensures { λ r. ⌜ r ≡ askRead (now (text .entry)) at ⌝ }
 {
     let number = read_number(text, at);
     let address = read_number(text, number.next);
@@ -97,8 +103,7 @@ fn read_ask(text: &[u8], at: usize) -> Read
 
 // The number at a place, after its spaces; 0 where there is no digit.
 pub fn read_number(text: &[u8], at: usize) -> Number
-    requires { ⌜ at ≤ length (now text) ⌝ }
-    ensures { λ r. ⌜ (at ≤ r .next) × (r .next ≤ length (now (text .entry))) × (r .value < 10000000000) ⌝ }
+    ensures { λ r. ⌜ NumberPromise (now (text .entry)) at r ⌝ }
 {
     let start = skip_spaces(text, at);
     read_digits(text, start)
@@ -106,8 +111,7 @@ pub fn read_number(text: &[u8], at: usize) -> Number
 
 // The first place from here on that is no space.
 fn skip_spaces(text: &[u8], from: usize) -> usize
-    requires { ⌜ from ≤ length (now text) ⌝ }
-    ensures { λ r. ⌜ (from ≤ r) × (r ≤ length (now (text .entry))) ⌝ }
+    ensures { λ r. ⌜ r ≡ pastSpaces from (drop from (now (text .entry))) ⌝ }
 {
     let mut at = from;
     while at < text.len() {
@@ -121,8 +125,7 @@ fn skip_spaces(text: &[u8], from: usize) -> usize
 
 // The number that the digits from here on make.
 fn read_digits(text: &[u8], from: usize) -> Number
-    requires { ⌜ from ≤ length (now text) ⌝ }
-    ensures { λ r. ⌜ (from ≤ r .next) × (r .next ≤ length (now (text .entry))) × (r .value < 10000000000) ⌝ }
+    ensures { λ r. ⌜ r ≡ digitsFrom 0 from (drop from (now (text .entry))) ⌝ }
 {
     let mut at = from;
     let mut value: u64 = 0;
@@ -139,7 +142,7 @@ fn read_digits(text: &[u8], from: usize) -> Number
 
 // The digit that a byte is, or 10 where it is none.
 fn digit_of(b: u8) -> u64
-    ensures { λ r. ⌜ r ≤ 10 ⌝ }
+    ensures { λ r. ⌜ (r ≡ digitOf b) × (r ≤ 10) ⌝ }
 {
     if b < 48 {
         return 10;
@@ -152,8 +155,8 @@ fn digit_of(b: u8) -> u64
 
 // A number with one more digit, where it has fewer than ten.
 fn with_digit(value: u64, digit: u64) -> u64
-    requires { ⌜ (value < 10000000000) × (digit ≤ 9) ⌝ }
-    ensures { λ r. ⌜ r < 10000000000 ⌝ }
+    requires { ⌜ digit ≤ 10 ⌝ }
+    ensures { λ r. ⌜ r ≡ withDigit value digit ⌝ }
 {
     if value < 1000000000 {
         value * 10 + digit
