@@ -28,10 +28,15 @@ pub use Rattle.pages.specs.OneOutcome.{sized-one, clear-one, count-one, check-o
 pub use Rattle.turn.specs.OneOutcome.{turn-one}
 -- histogram memory
 pub use Rattle.histogram.specs.OneOutcome.{open-one, increment-one, flip-one, ask-one, open-number-one, increment-number-one, flip-number-one, ask-number-one}
+-- text put into a room
+pub use Rattle.text.specs.OneOutcome.{text-one, number-one as text-number-one}
 -- the code program's lines
 pub use Rattle.lines.specs.OneOutcome.{fresh-one, taken-one, header-one as lines-header-one, put-answer-one, run-one}
 -- what the code program prints with
 pub use Rattle.printing.specs.OneOutcome.{header-one as printing-header-one, piece-one, last-one}
+-- the script of a soak, and the lines of its account
+pub use Rattle.script.specs.OneOutcome.{open-one as script-open-one, number-one as script-number-one, order-one}
+pub use Rattle.account.specs.OneOutcome.{write-one as account-write-one}
 -- what a test program is fed
 pub use Rattle.feed.specs.OneOutcome.{next-one, front-one, after-one, byte-one, two-one, four-one, eight-one}
 -- a state as words

@@ -21,11 +21,14 @@ use Rattle.code.specs.Meaning.{largest}
 use Rattle.code.proofs.Numbers.{minus, plus}
 use Rattle.lines.specs.declared.Line.{Line}
 use Rattle.lines.specs.declared.Ran.{Ran}
-use Rattle.lines.specs.Meaning.{header, numberText, refusedText}
+use Rattle.lines.specs.Meaning.{header, refusedText}
 use Rattle.lines.specs.Reading.{fresh, step, sound, known, answerOf}
 use Rattle.lines.specs.Running.{Stand, enough, nextLine, says, waits, goes, ranOver}
 use Rattle.lines.specs.Promise.{HeaderPromise, AnswerPromise, RunPromise}
-use Rattle.lines.specs.Texts.{Put, put-then, put-fits}
+use Rattle.text.specs.Meaning.{numberText}
+use Rattle.text.specs.Texts.{Put, put-then, put-fits}
+use Rattle.text.specs.Fitting.{put-nothing, text-stands, number-stands}
+use Rattle.text.specs.Promise.{TextPromise, NumberPromise}
 
 -- ---- what is known of a line
 
@@ -67,18 +70,20 @@ module _ (s : Line) where
   known-small {z} e h = subst (λ (n : ℕ). n ≤ largest) (sym (ap natAbs e ∙ abs-known (s .minus))) (sound-value h)
 
   -- a good line is answered by its number
-  pub answer-good : {room after : List ℕ} {at r : ℕ} (w z : ℤ) → w ≡ z → z ≡ known s → sound s ≡ true → Put room at (numberText w) r after
-      → Put room at (answerOf s) r after
+  pub answer-good : {room after : List ℕ} {at r : ℕ} (w z : ℤ) → w ≡ z → z ≡ known s → sound s ≡ true → at + enough ≤ length room
+      → NumberPromise room at w r after → Put room at (answerOf s) r after
   unfolding answerOf
-  answer-good {room} {after} {at} {r} w z e f h p =
+  answer-good {room} {after} {at} {r} w z e f h n p =
       subst (λ (l : List ℕ). Put room at l r after)
-      (ap numberText (e ∙ f) ∙ ap (λ (b : Bool). pick b (numberText (known s)) refusedText) (sym h)) p
+      (ap (λ (b : Bool). pick b (numberText (known s)) refusedText) (sym h)) (number-stands w (known s) (e ∙ f) p n (known-small {z = known s} refl h))
 
   -- any other line is answered by the refusal
-  pub answer-refused : {room after : List ℕ} {at r : ℕ} → sound s ≡ false → Put room at refusedText r after → Put room at (answerOf s) r after
+  pub answer-refused : {room after : List ℕ} {at r : ℕ} → sound s ≡ false → at + enough ≤ length room → TextPromise room at refusedText r after
+      → Put room at (answerOf s) r after
   unfolding answerOf
-  answer-refused {room} {after} {at} {r} h p =
-      subst (λ (l : List ℕ). Put room at l r after) (ap (λ (b : Bool). pick b (numberText (known s)) refusedText) (sym h)) p
+  answer-refused {room} {after} {at} {r} h n p =
+      subst (λ (l : List ℕ). Put room at l r after) (ap (λ (b : Bool). pick b (numberText (known s)) refusedText) (sym h))
+      (text-stands p (omega arith))
 
   -- ---- what a byte does
 
@@ -98,21 +103,15 @@ module _ (s : Line) where
   -- any other byte prints nothing
   pub other-says : {room : List ℕ} {at b : ℕ} → (b ≡ 10 → ⊥) → Put room at (says s b) at room
   other-says {room} {at} {b} e =
-      let empty : Put room at [] at room
-      = record {
-        memory = sym (take-append-drop at room) ∙ ap (λ (n : ℕ). take at room ++ drop n room) (sym (add-zero at));
-        place = sym (add-zero at);
-        long = refl;
-      } in
-      subst (λ (l : List ℕ). Put room at l at room) (ap (λ (x : Bool). pick x (answerOf s) []) (sym (ne-eqb b 10 e))) empty
+      subst (λ (l : List ℕ). Put room at l at room) (ap (λ (x : Bool). pick x (answerOf s) []) (sym (ne-eqb b 10 e))) (put-nothing room at)
 
 -- a newline may go where 80 bytes are left
-pub go-newline : (b at size : ℕ) → b ≡ 10 → at ≤ size → leb 80 (size - at) ≡ not (waits size at b)
-go-newline b at size e h = rw (eq-eqb b 10 e) (go (ltb size (at + 80)) refl)
+pub go-newline : (b at size : ℕ) → b ≡ 10 → at ≤ size → leb enough (size - at) ≡ not (waits size at b)
+go-newline b at size e h = rw (eq-eqb b 10 e) (go (ltb size (at + enough)) refl)
   where
-    go : (t : Bool) → ltb size (at + 80) ≡ t → leb 80 (size - at) ≡ not t
-    go true t = let k : size < at + 80 = ltb-true size (at + 80) t in lt-leb 80 (size - at) (omega arith)
-    go false t = let k : at + 80 ≤ size = ltb-false size (at + 80) t in le-leb 80 (size - at) (omega arith)
+    go : (t : Bool) → ltb size (at + enough) ≡ t → leb enough (size - at) ≡ not t
+    go true t = let k : size < at + enough = ltb-true size (at + enough) t in lt-leb enough (size - at) (omega arith)
+    go false t = let k : at + enough ≤ size = ltb-false size (at + enough) t in le-leb enough (size - at) (omega arith)
 
 -- any other byte may go
 pub go-other : (b at size : ℕ) → (b ≡ 10 → ⊥) → true ≡ not (waits size at b)
@@ -129,39 +128,40 @@ whenever true e = refl
 whenever false e = sym e
 
 -- a newline that may go has room
-pub newline-room : (b at size : ℕ) {t : Bool} → t ≡ not (waits size at b) → t ≡ true → b ≡ 10 → at + 80 ≤ size
+pub newline-room : (b at size : ℕ) {t : Bool} → t ≡ not (waits size at b) → t ≡ true → b ≡ 10 → at + enough ≤ size
 newline-room b at size p q e =
-    ltb-false size (at + 80) (ap (λ (x : Bool). x && ltb size (at + 80)) (sym (eq-eqb b 10 e)) ∙ unless (waits size at b) (sym q ∙ p))
+    ltb-false size (at + enough) (ap (λ (x : Bool). x && ltb size (at + enough)) (sym (eq-eqb b 10 e)) ∙ unless (waits size at b) (sym q ∙ p))
 
 -- ---- the front of a room
 
 -- a room under 80 bytes gets no header
-pub header-short : {room : List ℕ} → length room < 80 → HeaderPromise room 0 room
-header-short {room} h = record { answer = rw (lt-ltb (length room) 80 h); memory = rw (lt-ltb (length room) 80 h) }
+pub header-short : {room : List ℕ} → length room < enough → HeaderPromise room 0 room
+header-short {room} h = record { answer = rw (lt-ltb (length room) enough h); memory = rw (lt-ltb (length room) enough h) }
 
 -- a room of 80 bytes gets it
-pub header-put : {room after : List ℕ} {r : ℕ} → 80 ≤ length room → Put room 0 header r after → HeaderPromise room r after
-header-put {room} h p =
+pub header-put : {room after : List ℕ} {r : ℕ} → enough ≤ length room → TextPromise room 0 header r after → HeaderPromise room r after
+header-put {room} {after} {r} h t =
+    let p : Put room 0 header r after = text-stands t (omega arith) in
     record {
-      answer = p .place ∙ ap (λ (x : Bool). pick x 0 (length header)) (sym (le-ltb (length room) 80 h));
-      memory = p .memory ∙ ap (λ (x : Bool). pick x room (put room 0 header)) (sym (le-ltb (length room) 80 h));
+      answer = p .place ∙ ap (λ (x : Bool). pick x 0 (length header)) (sym (le-ltb (length room) enough h));
+      memory = p .memory ∙ ap (λ (x : Bool). pick x room (put room 0 header)) (sym (le-ltb (length room) enough h));
     }
 
 -- a room under 80 bytes gets no answer
-pub answer-short : {line : Line} {room : List ℕ} → length room < 80 → AnswerPromise line room 0 room
+pub answer-short : {line : Line} {room : List ℕ} → length room < enough → AnswerPromise line room 0 room
 answer-short {line} {room} h =
     record {
-      answer = ap (λ (x : Bool). pick x 0 (length (answerOf line))) (sym (lt-ltb (length room) 80 h));
-      memory = ap (λ (x : Bool). pick x room (put room 0 (answerOf line))) (sym (lt-ltb (length room) 80 h));
+      answer = ap (λ (x : Bool). pick x 0 (length (answerOf line))) (sym (lt-ltb (length room) enough h));
+      memory = ap (λ (x : Bool). pick x room (put room 0 (answerOf line))) (sym (lt-ltb (length room) enough h));
     }
 
 -- a room of 80 bytes gets it
-pub answer-put : {line : Line} {room after : List ℕ} {r : ℕ} → 80 ≤ length room → Put room 0 (answerOf line) r after → AnswerPromise line room r after
+pub answer-put : {line : Line} {room after : List ℕ} {r : ℕ} → enough ≤ length room → Put room 0 (answerOf line) r after → AnswerPromise line room r after
 answer-put {line} {room} {after} {r} h p =
     let many : r ≡ length (answerOf line) = omega (arith, p .place) in
     record {
-      answer = many ∙ ap (λ (x : Bool). pick x 0 (length (answerOf line))) (sym (le-ltb (length room) 80 h));
-      memory = p .memory ∙ ap (λ (x : Bool). pick x room (put room 0 (answerOf line))) (sym (le-ltb (length room) 80 h));
+      answer = many ∙ ap (λ (x : Bool). pick x 0 (length (answerOf line))) (sym (le-ltb (length room) enough h));
+      memory = p .memory ∙ ap (λ (x : Bool). pick x room (put room 0 (answerOf line))) (sym (le-ltb (length room) enough h));
     }
 
 -- ---- a run

@@ -4,7 +4,8 @@ use mathlib.Core.Path.{_≡_, refl}
 use mathlib.Core.List.{List, [], _∷_}
 use Prim.Native.Nat.{ℕ}
 use Rattle.code.specs.Meaning.{leadingIn, shapeOf}
-use Rattle.lines.specs.Meaning.{lineMeans, shortest, refusedText, printed}
+use Rattle.text.specs.Meaning.{shortest}
+use Rattle.lines.specs.Meaning.{lineMeans, refusedText, printed}
 
 -- "-16 1110000 1110"
 pub minus-sixteen : lineMeans (45 ∷ 49 ∷ 54 ∷ [])

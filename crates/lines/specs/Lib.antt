@@ -1,7 +1,6 @@
 pub mod Meaning
 pub mod Cases
 pub mod Reading
-pub mod Texts
 pub mod Running
 pub mod Promise
 pub mod OneOutcome

@@ -47,7 +47,7 @@ run-put {line} {input} {room} {after} p =
     subst (λ (n : ℕ). n ≤ length after) (sym (p .answer)) (front-inside room (ranOver (length room) line input .text) after (p .memory))
 
 -- with a room of 80 bytes a run over some bytes uses some
-pub run-moves : {line : Line} {input room after : List ℕ} {r : Ran} → RunPromise line input room r after → 80 ≤ length room → 1 ≤ length input → 1 ≤ r .used
+pub run-moves : {line : Line} {input room after : List ℕ} {r : Ran} → RunPromise line input room r after → enough ≤ length room → 1 ≤ length input → 1 ≤ r .used
 run-moves {line} {input} {room} p h g = subst (λ (n : ℕ). 1 ≤ n) (sym (p .used)) (go input g)
   where
     go : (l : List ℕ) → 1 ≤ length l → 1 ≤ ranOver (length room) line l .used

@@ -1,7 +1,6 @@
 // The code program's lines, on bytes: taken apart as they come, in pieces of any length, and answered.
 mod answer;
 mod byte;
-mod text;
 
 ghost use mathlib.Core.Path.{_≡_};
 ghost use Rattle.lines.specs.Promise.{AnswerPromise, FreshPromise, HeaderPromise, RunPromise, TakenPromise};
@@ -10,10 +9,7 @@ use answer::next_line;
 use answer::put_line;
 use answer::put_said;
 use byte::digit_taken;
-use text::put_text;
-
-// The room that any line's answer fits, and the header.
-const ENOUGH: usize = 80;
+use text::ENOUGH;
 
 // The program's header.
 const HEADER: [u8; 18] = [
@@ -88,7 +84,7 @@ pub fn put_header(room: &mut [u8]) -> usize
     if room.len() < ENOUGH {
         0
     } else {
-        put_text(room, 0, &HEADER)
+        text::put_text(room, 0, &HEADER)
     }
 }
 

@@ -9,6 +9,7 @@ use lib.Seq.{drop-drop, take-all}
 use Rattle.lines.specs.declared.Line.{Line}
 use Rattle.lines.specs.declared.Ran.{Ran}
 use Rattle.lines.specs.Promise.{RunPromise}
+use Rattle.lines.specs.Running.{enough}
 use Rattle.lines.specs.Moving.{run-used, run-moves}
 use Rattle.printing.specs.Promise.{PiecePromise}
 use Rattle.lines.specs.After.{lineAfter, after-none, run-left}
@@ -24,7 +25,7 @@ module _ (piece : List ℕ) (at : ℕ) {line : Line} {room after : List ℕ} {r 
   stays = omega (arith, run-used p, length-take (length piece - at) (drop at piece), length-drop at piece)
 
   -- it gets on
-  pub gets-on : 80 ≤ length room → length piece - (at + r .used) < length piece - at
+  pub gets-on : enough ≤ length room → length piece - (at + r .used) < length piece - at
   gets-on k =
       let some : 1 ≤ length (take (length piece - at) (drop at piece)) = omega (arith, length-take (length piece - at) (drop at piece), length-drop at piece) in
       omega (arith, run-moves p k some)

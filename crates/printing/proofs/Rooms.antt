@@ -10,21 +10,22 @@ use Rattle.ground.specs.Choice.{pick}
 use Rattle.lines.specs.declared.Line.{Line}
 use Rattle.lines.specs.Meaning.{header}
 use Rattle.lines.specs.Reading.{answerOf}
+use Rattle.lines.specs.Running.{enough}
 use Rattle.lines.specs.Promise.{HeaderPromise as PutHeader, AnswerPromise as PutAnswer}
 use Rattle.printing.specs.Promise.{HeaderPromise, LastPromise}
 
 -- all of the header
-pub header-all : {room after : List ℕ} {put r : ℕ} → PutHeader room put after → 80 ≤ length room → r ≡ put → HeaderPromise r
-header-all {room} p h g = record { answer = g ∙ p .answer ∙ ap (λ (x : Bool). pick x 0 (length header)) (le-ltb (length room) 80 h) }
+pub header-all : {room after : List ℕ} {put r : ℕ} → PutHeader room put after → enough ≤ length room → r ≡ put → HeaderPromise r
+header-all {room} p h g = record { answer = g ∙ p .answer ∙ ap (λ (x : Bool). pick x 0 (length header)) (le-ltb (length room) enough h) }
 
 -- all of the answer of a line that has any bytes
-pub last-all : {line : Line} {room after : List ℕ} {put r : ℕ} → PutAnswer line room put after → 80 ≤ length room → line .begun ≡ true → r ≡ put
+pub last-all : {line : Line} {room after : List ℕ} {put r : ℕ} → PutAnswer line room put after → enough ≤ length room → line .begun ≡ true → r ≡ put
     → LastPromise line r
 last-all {line} {room} p h e g =
     record {
       answer =
           g
           ∙ p .answer
-          ∙ ap (λ (x : Bool). pick x 0 (length (answerOf line))) (le-ltb (length room) 80 h)
+          ∙ ap (λ (x : Bool). pick x 0 (length (answerOf line))) (le-ltb (length room) enough h)
           ∙ ap (λ (x : Bool). length (pick x (answerOf line) [])) (sym e);
     }

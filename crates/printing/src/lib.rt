@@ -3,6 +3,7 @@
 ghost use mathlib.Core.Path.{_≡_};
 ghost use Prim.Native.Nat.{_≤_};
 ghost use lib.ListN.{length};
+ghost use Rattle.lines.specs.Running.{enough};
 ghost use Rattle.printing.specs.Promise.{HeaderPromise, LastPromise, PiecePromise};
 use libc::STDOUT_FILENO;
 use lines::Line;
@@ -40,7 +41,7 @@ pub fn print_last(line: Line) -> usize
 
 // Prints a piece's answers, as many at a time as the room takes, and gives the line that does not end.
 fn print_runs(line: Line, piece: &[u8], room: &mut [u8]) -> Line
-    requires { ⌜ 80 ≤ length (now room) ⌝ }
+    requires { ⌜ enough ≤ length (now room) ⌝ }
     ensures { λ r. ⌜ PiecePromise line (now (piece .entry)) r ⌝ }
 {
     let mut current = line;

@@ -2,7 +2,7 @@
 ghost use mathlib.Core.Path.{_≡_};
 ghost use Prim.Native.Nat.{_+_, _≤_, _<_};
 ghost use Rattle.soak.specs.Book.{Holds, countOf, handedOf, rememberedOf};
-use crate::line;
+use account::Entry;
 use histogram::AskAnswer;
 use histogram::IncrementAnswer;
 use histogram::Kept;
@@ -26,7 +26,10 @@ pub fn increment_once(memory: &mut [u32], book: Book, address: u32) -> Book
     let made = histogram::increment(memory, current, address);
     let answer = made.answer;
     let state = made.state;
-    line::incremented(address, histogram::increment_number(answer));
+    account::write(Entry::Incremented {
+        address,
+        refusal: histogram::increment_number(answer),
+    });
     let accepted = book.accepted + count_of(answer);
     let last = book.last;
     Book {
@@ -46,7 +49,9 @@ pub fn flip_once(memory: &[u32], book: Book) -> Book
     let made = histogram::flip(memory, current);
     let answer = made.answer;
     let state = made.state;
-    line::flipped(histogram::flip_number(answer));
+    account::write(Entry::Flipped {
+        refusal: histogram::flip_number(answer),
+    });
     let last = book.last;
     Book {
         state,
@@ -65,7 +70,7 @@ pub fn ask_once(memory: &mut [u32], book: Book, number: u16, window: Window) -> 
     let made = histogram::ask(memory, current, number, window);
     let answer = made.answer;
     let state = made.state;
-    write_asked(number, answer);
+    account::write(asked_of(number, answer));
     let cleared = book.cleared + handed_of(answer, window.clear);
     let previous = book.last;
     let last = remembered_of(answer, number, window, previous);
@@ -131,16 +136,16 @@ fn latest(number: u16, window: Window, sum: u64) -> Kept
     }
 }
 
-// The line of an ask.
-fn write_asked(number: u16, answer: AskAnswer) {
+// The entry of an ask.
+fn asked_of(ask: u16, answer: AskAnswer) -> Entry {
     let refusal = histogram::ask_number(answer);
     match answer {
-        AskAnswer::New { sum } => line::asked_new(number, sum),
-        AskAnswer::Again { sum } => line::asked_again(number, sum),
-        AskAnswer::WrongMemory => line::not_asked(number, refusal),
-        AskAnswer::WrongCell => line::not_asked(number, refusal),
-        AskAnswer::AboveFull => line::not_asked(number, refusal),
-        AskAnswer::OutOfTurn => line::not_asked(number, refusal),
-        AskAnswer::OtherWindow => line::not_asked(number, refusal),
+        AskAnswer::New { sum } => Entry::New { ask, sum },
+        AskAnswer::Again { sum } => Entry::Again { ask, sum },
+        AskAnswer::WrongMemory => Entry::Refused { ask, refusal },
+        AskAnswer::WrongCell => Entry::Refused { ask, refusal },
+        AskAnswer::AboveFull => Entry::Refused { ask, refusal },
+        AskAnswer::OutOfTurn => Entry::Refused { ask, refusal },
+        AskAnswer::OtherWindow => Entry::Refused { ask, refusal },
     }
 }

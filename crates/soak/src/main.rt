@@ -3,13 +3,12 @@
 // its sum and changes nothing.
 mod audit;
 mod book;
-mod line;
-mod script;
 
 ghost use Prim.Native.Nat.{_+_, _≤_, _<_};
 ghost use mathlib.Core.Path.{_≡_};
 ghost use lib.ListN.{length};
 ghost use Rattle.soak.specs.Book.{Holds};
+use account::Entry;
 use audit::audit;
 use audit::held;
 use book::Book;
@@ -55,7 +54,10 @@ fn lend(memory: &mut [u32], words: usize, calls: &[u8]) {
 fn run(memory: &mut [u32], calls: &[u8]) {
     let words = memory.len() as u64;
     let opened = histogram::open(memory);
-    line::opened(words, histogram::open_number(opened));
+    account::write(Entry::Opened {
+        words,
+        refusal: histogram::open_number(opened),
+    });
     match opened {
         Opened::Ready(state) => run_calls(memory, calls, state),
         Opened::WrongMemory => {}
@@ -80,7 +82,11 @@ fn run_calls(memory: &mut [u32], calls: &[u8], state: State)
         book = audit(memory, played);
         at = read.next;
     }
-    line::ledger(held(memory), book.cleared, book.accepted);
+    account::write(Entry::Ledger {
+        held: held(memory),
+        cleared: book.cleared,
+        accepted: book.accepted,
+    });
 }
 
 // Plays one order, entered into the book.

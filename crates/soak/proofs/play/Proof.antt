@@ -1,10 +1,11 @@
 -- `soak::play` meets its contract. The loop's invariant: the place lies in the text, and the memory keeps its length.
 -- Assumes nothing.
 use mathlib.Core.Path.{_≡_, refl, _∙_}
-use Prim.Native.Nat.{_≤_, _-_}
+use Prim.Native.Nat.{_≤_, _-_, zero-le}
 use native.Mathlib.Omega.{arith}
 use lib.ListN.{length}
 use borrow.Author.Needs.{needs}
+use Rattle.script.specs.Places.{number-inside, open-inside}
 use Rattle.soak.proofs.play.Statement.{statement}
 use Rattle.soak.proofs.play.Tie as tie
 
@@ -18,39 +19,34 @@ next-open-requires : tie.Need-next-open-requires Inv-loop μ-loop
 next-open-requires c κs = search needs
 
 loop-holds : tie.Need-loop-holds Inv-loop μ-loop
-loop-holds c = (c .next-open .ensures .1, refl)
+loop-holds c = (open-inside (c .next-open .ensures) zero-le .to, refl)
 
 add-read-number : tie.Need-add-read-number Inv-loop μ-loop
 add-read-number c = omega arith
 
 read-number-requires : tie.Need-read-number-requires Inv-loop μ-loop
-read-number-requires c κs = omega arith
+read-number-requires c κs = search needs
 
 next-open-requires-2 : tie.Need-next-open-requires-2 Inv-loop μ-loop
-next-open-requires-2 c κs = c .read-number .ensures .1
+next-open-requires-2 c κs = search needs
 
 sub-lend : tie.Need-sub-lend Inv-loop μ-loop
-sub-lend c = c .before .next-open2 .ensures .0
+sub-lend c = open-inside (c .before .next-open2 .ensures) (number-inside (c .before .before .read-number .ensures) (omega (arith, c .before .before .before .loop-test .taken)) .to) .from
 
 part-lend-start : tie.Need-part-lend-start Inv-loop μ-loop
-part-lend-start c = search needs
+part-lend-start c = let start = number-inside (c .before .before .read-number .ensures) (omega (arith, c .before .before .before .loop-test .taken)) in let end = open-inside (c .before .next-open2 .ensures) (number-inside (c .before .before .read-number .ensures) (omega (arith, c .before .before .before .loop-test .taken)) .to) in search needs
 
 part-lend-end : tie.Need-part-lend-end Inv-loop μ-loop
-part-lend-end c = search needs
+part-lend-end c = let start = number-inside (c .before .before .read-number .ensures) (omega (arith, c .before .before .before .loop-test .taken)) in let end = open-inside (c .before .next-open2 .ensures) (number-inside (c .before .before .read-number .ensures) (omega (arith, c .before .before .before .loop-test .taken)) .to) in search needs
 
 lend-requires : tie.Need-lend-requires Inv-loop μ-loop
 lend-requires c κs = search needs
 
 loop-less : tie.Need-loop-less Inv-loop μ-loop
-loop-less c =
-    omega
-    (arith, c .before .before .before .before .before .next-open2 .ensures, c .before .before .before .before .before .before .read-number .ensures)
+loop-less c = omega (arith, open-inside (c .before .before .before .before .before .next-open2 .ensures) (number-inside (c .before .before .before .before .before .before .read-number .ensures) (omega (arith, c .before .before .before .before .before .before .before .loop-test .taken)) .to), number-inside (c .before .before .before .before .before .before .read-number .ensures) (omega (arith, c .before .before .before .before .before .before .before .loop-test .taken)), c .before .before .before .before .before .before .before .loop-test .taken)
 
 loop-again : tie.Need-loop-again Inv-loop μ-loop
-loop-again c = (
-  c .before .before .before .before .before .next-open2 .ensures .1,
-  c .before .before .lend .kept .0 ∙ c .before .before .before .before .before .before .before .before .loop .inv .1,
-)
+loop-again c = (open-inside (c .before .before .before .before .before .next-open2 .ensures) (number-inside (c .before .before .before .before .before .before .read-number .ensures) (omega (arith, c .before .before .before .before .before .before .before .loop-test .taken)) .to) .to, c .before .before .lend .kept .0 ∙ c .before .before .before .before .before .before .before .before .loop .inv .1)
 
 same-length : tie.Need-same-length Inv-loop μ-loop
 same-length c = c .before .loop .inv .1

@@ -11,15 +11,15 @@ open-requires c κs = search needs
 open-number-requires : tie.Need-open-number-requires
 open-number-requires c κs = search needs
 
-opened-requires : tie.Need-opened-requires
-opened-requires c κs = search needs
+write-requires : tie.Need-write-requires
+write-requires c κs = search needs
 
 enum-known-opened : tie.Need-enum-known-opened
 enum-known-opened c = search needs
 
 run-calls-requires : tie.Need-run-calls-requires
 run-calls-requires c κs =
-    after-open _ _ _ _ (c .before .before .before .before .before .before .before .before .open .ensures) (c .before .before .opened2 .given .1)
+    after-open _ _ _ _ (c .before .before .before .before .before .before .before .before .open .ensures) (c .before .before .opened .given .1)
 
 enum-told : tie.Need-enum-told
 enum-told c = search needs
@@ -42,7 +42,7 @@ run-spec =
     (tie.spec
     open-requires
     open-number-requires
-    opened-requires
+    write-requires
     enum-known-opened
     run-calls-requires
     enum-told

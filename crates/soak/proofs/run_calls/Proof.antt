@@ -5,6 +5,7 @@ use Prim.Native.Nat.{_≤_, _-_}
 use native.Mathlib.Omega.{arith}
 use lib.ListN.{length}
 use borrow.Author.Needs.{needs}
+use Rattle.script.specs.Places.{order-inside}
 use Rattle.soak.proofs.Auditing.{holds-small}
 use Rattle.soak.specs.Book.{Holds}
 use Rattle.soak.proofs.run_calls.Statement.{statement}
@@ -20,7 +21,7 @@ loop-holds : tie.Need-loop-holds Inv-loop μ-loop
 loop-holds c = (c .before .before .pre, refl, omega arith, omega arith)
 
 read-order-requires : tie.Need-read-order-requires Inv-loop μ-loop
-read-order-requires c κs = omega arith
+read-order-requires c κs = search needs
 
 play-one-requires : tie.Need-play-one-requires Inv-loop μ-loop
 play-one-requires c κs = (c .before .before .before .loop .inv .0, omega arith)
@@ -29,7 +30,7 @@ audit-requires : tie.Need-audit-requires Inv-loop μ-loop
 audit-requires c κs = (c .before .before .before .play-one .ensures .0, omega (arith, c .before .before .before .play-one .ensures .1))
 
 loop-less : tie.Need-loop-less Inv-loop μ-loop
-loop-less c = omega (arith, c .before .before .before .before .before .before .before .before .read-order .ensures)
+loop-less c = omega (arith, order-inside (c .before .before .before .before .before .before .before .before .read-order .ensures) (c .before .before .before .before .before .before .before .before .before .loop-test .taken))
 
 loop-again : tie.Need-loop-again Inv-loop μ-loop
 loop-again c = (
@@ -40,16 +41,16 @@ loop-again c = (
     arith,
     c .before .before .audit .ensures .1,
     c .before .before .before .before .before .before .play-one .ensures .1,
-    c .before .before .before .before .before .before .before .before .read-order .ensures .0,
+    order-inside (c .before .before .before .before .before .before .before .before .read-order .ensures) (c .before .before .before .before .before .before .before .before .before .loop-test .taken) .from,
   ),
-  c .before .before .before .before .before .before .before .before .read-order .ensures .1,
+  order-inside (c .before .before .before .before .before .before .before .before .read-order .ensures) (c .before .before .before .before .before .before .before .before .before .loop-test .taken) .to,
 )
 
 held-requires : tie.Need-held-requires Inv-loop μ-loop
 held-requires c κs = holds-small _ _ (c .before .before .loop .inv .0)
 
-ledger-requires : tie.Need-ledger-requires Inv-loop μ-loop
-ledger-requires c κs = search needs
+write-requires : tie.Need-write-requires Inv-loop μ-loop
+write-requires c κs = search needs
 
 same-length : tie.Need-same-length Inv-loop μ-loop
 same-length c = c .before .before .before .before .loop .inv .1
@@ -70,6 +71,6 @@ run-calls-spec =
     loop-less
     loop-again
     held-requires
-    ledger-requires
+    write-requires
     same-length
     returns)

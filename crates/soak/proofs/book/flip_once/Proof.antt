@@ -12,11 +12,11 @@ flip-requires c κs = search needs
 flip-number-requires : tie.Need-flip-number-requires
 flip-number-requires c κs = search needs
 
-flipped-requires : tie.Need-flipped-requires
-flipped-requires c κs = search needs
+write-requires : tie.Need-write-requires
+write-requires c κs = search needs
 
 returns : tie.Need-returns
 returns c = (after-flip _ _ _ (c .before .before .before .before .before .before .pre) (c .before .before .before .flip .ensures), refl)
 
 pub flip-once-spec : {M : Type 1} → statement M
-flip-once-spec = tie.close (tie.spec flip-requires flip-number-requires flipped-requires returns)
+flip-once-spec = tie.close (tie.spec flip-requires flip-number-requires write-requires returns)

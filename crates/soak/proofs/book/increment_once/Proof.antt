@@ -12,8 +12,8 @@ increment-requires c κs = search needs
 increment-number-requires : tie.Need-increment-number-requires
 increment-number-requires c κs = search needs
 
-incremented-requires : tie.Need-incremented-requires
-incremented-requires c κs = search needs
+write-requires : tie.Need-write-requires
+write-requires c κs = search needs
 
 count-of-requires : tie.Need-count-of-requires
 count-of-requires c κs = search needs
@@ -37,7 +37,7 @@ increment-once-spec =
     (tie.spec
     increment-requires
     increment-number-requires
-    incremented-requires
+    write-requires
     count-of-requires
     add-accepted
     same-length
