@@ -7,6 +7,7 @@ ghost use Rattle.histogram.specs.Meaning.{countedPaper, fittingOf, excha
 ghost use Rattle.histogram.specs.Answers.{openedPaper, incrementPaper, flipPaper, askPaper};
 ghost use Rattle.histogram.specs.Promise.{OpenPromise, IncrementPromise, FlipPromise, AskPromise, askedOf};
 use pages::CountAnswer;
+pub use pages::FULL;
 use pages::Taken;
 pub use pages::Window;
 use pages::clear;
@@ -254,7 +255,15 @@ fn new_sum(state: State, number: u16, window: Window, sum: u64) -> Asked
 {
     Asked {
         answer: AskAnswer::New { sum },
-        state: keep(state, number, window, sum),
+        state: State {
+            words: state.words,
+            second: state.second,
+            kept: Kept::Last {
+                number,
+                window,
+                sum,
+            },
+        },
     }
 }
 
@@ -272,20 +281,5 @@ fn again(state: State, sum: u64) -> Asked
     Asked {
         answer: AskAnswer::Again { sum },
         state,
-    }
-}
-
-// The state with an accepted ask's number, window and sum kept.
-fn keep(state: State, number: u16, window: Window, sum: u64) -> State
-    ensures { λ r. ⌜ r ≡ keeping state number window sum ⌝ }
-{
-    State {
-        words: state.words,
-        second: state.second,
-        kept: Kept::Last {
-            number,
-            window,
-            sum,
-        },
     }
 }

@@ -52,4 +52,4 @@ not-taken m p w r e f = record { answer = rw e f; memory = rw e }
 pub walked : (m : List ℕ) (p : Bool) (w : Window) (sum : ℕ) (after : List ℕ) → checkMeans m p w ≡ accepted tt
     → _≡_ {A = Walk} (record { memory = after; sum = sum }) (windowWalk m p w) → TakePromise m p w (Taken.Sum sum) after
 unfolding takeMeans
-walked m p w sum after e f = record { answer = rw (e, ← f); memory = rw (e, ← f) }
+walked m p w sum after e f = record { answer = rw e (ap (λ (x : Walk). accepted (x .sum)) f); memory = rw e (ap (λ (x : Walk). x .memory) f) }
