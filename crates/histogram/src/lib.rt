@@ -7,6 +7,7 @@ ghost use Rattle.histogram.specs.Meaning.{countedPaper, fittingOf, excha
 ghost use Rattle.histogram.specs.Answers.{openedPaper, incrementPaper, flipPaper, askPaper};
 ghost use Rattle.histogram.specs.Promise.{OpenPromise, IncrementPromise, FlipPromise, AskPromise, askedOf};
 use pages::CountAnswer;
+pub use pages::FULL;
 use pages::Taken;
 pub use pages::Window;
 use pages::clear;
