@@ -23,7 +23,7 @@ pub use Rattle.cadence.specs.OneOutcome.{seconds-one, beginning-one, ending-one
 -- readings and rates
 pub use Rattle.rate.specs.OneOutcome.{reading-one, rate-one, counted-number-one, rated-number-one, refusal-number-one}
 -- two pages of counters
-pub use Rattle.pages.specs.OneOutcome.{sized-one, clear-one, count-one, check-one, take-one}
+pub use Rattle.pages.specs.OneOutcome.{sized-one, clear-one, count-one, take-one}
 -- whose turn it is
 pub use Rattle.turn.specs.OneOutcome.{turn-one}
 -- histogram memory

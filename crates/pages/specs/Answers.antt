@@ -35,18 +35,6 @@ checkedPaper Checked.Sound = accepted tt
 checkedPaper Checked.WrongCell = refused 14
 checkedPaper Checked.AboveFull = refused 16
 
--- the way back from checking's paper
-abbrev pub checkedBack : Paper (Unit {0}) → Checked
-checkedBack (accepted x) = Checked.Sound
-checkedBack (refused n) = pick (eqb n 14) Checked.WrongCell Checked.AboveFull
-checkedBack (refusedWith n x) = Checked.WrongCell
-
--- there and back is where it began
-pub checked-home : (a : Checked) → checkedBack (checkedPaper a) ≡ a
-checked-home Checked.Sound = refl
-checked-home Checked.WrongCell = refl
-checked-home Checked.AboveFull = refl
-
 -- taking a window: its sum, or 14, 16
 abbrev pub takenPaper : Taken → Paper ℕ
 takenPaper (Taken.Sum sum) = accepted sum

@@ -25,16 +25,16 @@ pub enum CountAnswer {
     AboveFull,
 }
 
-// What checking a window answers.
-pub enum Checked {
-    Sound,
+// What taking a window answers: the sum of its cells, or why not.
+pub enum Taken {
+    Sum(u64),
     WrongCell,
     AboveFull,
 }
 
-// What taking a window answers: the sum of its cells, or why not.
-pub enum Taken {
-    Sum(u64),
+// What checking a window answers.
+enum Checked {
+    Sound,
     WrongCell,
     AboveFull,
 }
@@ -86,19 +86,6 @@ pub fn count(memory: &mut [u32], second: bool, address: u32) -> CountAnswer
     CountAnswer::Counted
 }
 
-// Whether a window of a page may be taken: its last cell inside the page, and none of its words above full.
-pub fn check(memory: &[u32], second: bool, window: Window) -> Checked
-    ensures { λ r. ⌜ CheckPromise (now (memory .entry)) second window r ⌝ }
-{
-    if memory.len() / 2 <= last_cell(window) {
-        return Checked::WrongCell;
-    }
-    if !sound_rows(memory, second, window) {
-        return Checked::AboveFull;
-    }
-    Checked::Sound
-}
-
 // Sums the cells of a window of a page in order, each set to 0 at once where the window clears.
 pub fn take(memory: &mut [u32], second: bool, window: Window) -> Taken
     ensures { λ r. ⌜ TakePromise (now (memory .entry)) second window r (now (memory .exit)) ⌝ }
@@ -109,4 +96,17 @@ pub fn take(memory: &mut [u32], second: bool, window: Window) -> Taken
         Checked::WrongCell => Taken::WrongCell,
         Checked::AboveFull => Taken::AboveFull,
     }
+}
+
+// Whether a window of a page may be taken: its last cell inside the page, and none of its words above full.
+fn check(memory: &[u32], second: bool, window: Window) -> Checked
+    ensures { λ r. ⌜ CheckPromise (now (memory .entry)) second window r ⌝ }
+{
+    if memory.len() / 2 <= last_cell(window) {
+        return Checked::WrongCell;
+    }
+    if !sound_rows(memory, second, window) {
+        return Checked::AboveFull;
+    }
+    Checked::Sound
 }
