@@ -26,7 +26,8 @@ use Rattle.histogram.specs.declared.Flipped.{Flipped}
 use Rattle.histogram.specs.declared.FlipAnswer.{FlipAnswer}
 use Rattle.histogram.specs.declared.Asked.{Asked}
 use Rattle.histogram.specs.declared.AskAnswer.{AskAnswer}
-use Rattle.soak.specs.Book.{Holds, countOf, handedOf, rememberedOf}
+use Rattle.tally.specs.Meaning.{countOf, handedOf}
+use Rattle.soak.specs.Book.{Holds, rememberedOf}
 use Rattle.soak.specs.declared.book.Book.{Book}
 
 -- a call that was answered as it means

@@ -6,13 +6,11 @@ use mathlib.Core.List.{List}
 use Prim.Native.Nat.{ℕ, _+_}
 use lib.Dec.{eqb}
 use lib.ListN.{length}
-use Rattle.ground.specs.Choice.{pick}
 use Rattle.histogram.specs.Meaning.{fittingOf}
 use Rattle.histogram.specs.Runs.{total}
 use Rattle.histogram.specs.declared.Window.{Window}
 use Rattle.histogram.specs.declared.Kept.{Kept}
 use Rattle.histogram.specs.declared.AskAnswer.{AskAnswer}
-use Rattle.histogram.specs.declared.IncrementAnswer.{IncrementAnswer}
 use Rattle.soak.specs.declared.book.Book.{Book}
 
 -- demand 3 on a book: held plus cleared equals accepted; the memory fits the state; the ask that the program remembers is the one that the state keeps
@@ -20,24 +18,6 @@ pub record Holds (m : List ℕ) (b : Book) : Type 0 where
   pub balance : total m + b .cleared ≡ b .accepted
   pub fits : fittingOf (length m) (b .state) ≡ true
   pub kept : b .state .kept ≡ b .last
-
--- what an increment's answer adds to the accepted ones
-abbrev pub countOf : IncrementAnswer → ℕ
-countOf IncrementAnswer.Counted = 1
-countOf IncrementAnswer.WrongMemory = 0
-countOf IncrementAnswer.WrongAddress = 0
-countOf IncrementAnswer.Full = 0
-countOf IncrementAnswer.AboveFull = 0
-
--- what an ask's answer adds to the counts cleared
-abbrev pub handedOf : AskAnswer → Bool → ℕ
-handedOf (AskAnswer.New sum) clear = pick clear sum 0
-handedOf (AskAnswer.Again sum) clear = 0
-handedOf AskAnswer.WrongMemory clear = 0
-handedOf AskAnswer.WrongCell clear = 0
-handedOf AskAnswer.AboveFull clear = 0
-handedOf AskAnswer.OutOfTurn clear = 0
-handedOf AskAnswer.OtherWindow clear = 0
 
 -- the last ask accepted as new, after an ask's answer
 abbrev pub rememberedOf : AskAnswer → ℕ → Window → Kept → Kept

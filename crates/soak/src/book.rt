@@ -1,10 +1,9 @@
 // The book: the state, the ledger's two sides and the last accepted ask as the program itself remembers it; and each call entered into it.
 ghost use mathlib.Core.Path.{_≡_};
 ghost use Prim.Native.Nat.{_+_, _≤_, _<_};
-ghost use Rattle.soak.specs.Book.{Holds, countOf, handedOf, rememberedOf};
+ghost use Rattle.soak.specs.Book.{Holds, rememberedOf};
 use account::Entry;
 use histogram::AskAnswer;
-use histogram::IncrementAnswer;
 use histogram::Kept;
 use histogram::State;
 use histogram::Window;
@@ -30,7 +29,7 @@ pub fn increment_once(memory: &mut [u32], book: Book, address: u32) -> Book
         address,
         refusal: histogram::increment_number(answer),
     });
-    let accepted = book.accepted + count_of(answer);
+    let accepted = book.accepted + tally::count_of(answer);
     let last = book.last;
     Book {
         state,
@@ -71,7 +70,7 @@ pub fn ask_once(memory: &mut [u32], book: Book, number: u16, window: Window) -> 
     let answer = made.answer;
     let state = made.state;
     account::write(asked_of(number, answer));
-    let cleared = book.cleared + handed_of(answer, window.clear);
+    let cleared = book.cleared + tally::handed_of(answer, window.clear);
     let previous = book.last;
     let last = remembered_of(answer, number, window, previous);
     Book {
@@ -79,34 +78,6 @@ pub fn ask_once(memory: &mut [u32], book: Book, number: u16, window: Window) -> 
         cleared,
         accepted: book.accepted,
         last,
-    }
-}
-
-// What an increment's answer adds to the accepted ones.
-fn count_of(answer: IncrementAnswer) -> u64
-    ensures { λ r. ⌜ (r ≡ countOf answer) × (r ≤ 1) ⌝ }
-{
-    match answer {
-        IncrementAnswer::Counted => 1,
-        IncrementAnswer::WrongMemory => 0,
-        IncrementAnswer::WrongAddress => 0,
-        IncrementAnswer::Full => 0,
-        IncrementAnswer::AboveFull => 0,
-    }
-}
-
-// What an ask's answer adds to the counts cleared.
-fn handed_of(answer: AskAnswer, clear: bool) -> u64
-    ensures { λ r. ⌜ r ≡ handedOf answer clear ⌝ }
-{
-    match answer {
-        AskAnswer::New { sum } => if clear { sum } else { 0 },
-        AskAnswer::Again { sum: _ } => 0,
-        AskAnswer::WrongMemory => 0,
-        AskAnswer::WrongCell => 0,
-        AskAnswer::AboveFull => 0,
-        AskAnswer::OutOfTurn => 0,
-        AskAnswer::OtherWindow => 0,
     }
 }
 

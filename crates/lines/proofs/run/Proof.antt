@@ -3,7 +3,7 @@
 use Prim.Native.Nat.{_-_}
 use native.Mathlib.Omega.{arith}
 use borrow.Author.Needs.{needs}
-use lib.ListN.{length}
+use lib.ListN.{length, getD}
 use Rattle.lines.proofs.Answering.{Running, running-start, running-more, running-waits, running-over, newline-room}
 use Rattle.lines.proofs.run.Statement.{statement}
 use Rattle.lines.proofs.run.Tie as tie
@@ -27,7 +27,7 @@ shared-slice-read-byte : tie.Need-shared-slice-read-byte Inv-loop μ-loop
 shared-slice-read-byte c = search needs
 
 put-said-requires : tie.Need-put-said-requires Inv-loop μ-loop
-put-said-requires c κs = (omega (arith, c .before .before .before .before .before .before .loop .inv .fits, c .before .before .before .before .before .before .loop .inv .long), newline-room _ _ _ (c .before .before .before .may-go .ensures) (c .before .before .if1 .taken))
+put-said-requires c κs = (omega (arith, c .before .before .before .before .before .before .loop .inv .fits, c .before .before .before .before .before .before .loop .inv .long), λ e. omega (arith, newline-room (getD (c .before .before .before .before .before .before .before .before .before .args .input .now) (c .before .before .before .before .before .before .loop .used) 0) (c .before .before .before .before .before .before .loop .put) _ (c .before .before .before .may-go .ensures) (c .before .before .if1 .taken) e))
 
 next-line-requires : tie.Need-next-line-requires Inv-loop μ-loop
 next-line-requires c κs = search needs

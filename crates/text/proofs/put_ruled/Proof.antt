@@ -22,10 +22,10 @@ put-value-requires : tie.Need-put-value-requires
 put-value-requires c κs = search needs
 
 put-spaced-requires : tie.Need-put-spaced-requires
-put-spaced-requires c κs = (omega (arith, c .before .before .before .put-value .ensures .1, c .before .before .before .put-value .ensures .0 .long, c .before .before .before .before .before .before .pre .0), subst (λ (n : ℕ). n ≤ largest) (ap natAbs (sym (toZ-ofZ w32 (c .before .before .before .before .before .before .args .v) (c .before .before .before .before .before .before .fits .v)))) (c .before .before .before .before .before .before .pre .1), none)
+put-spaced-requires c κs = (omega (arith, c .before .before .before .put-value .ensures .1, c .before .before .before .put-value .ensures .0 .long, c .before .before .before .before .before .before .pre .0), subst (λ (n : ℕ). n ≤ largest) (ap natAbs (sym (toZ-ofZ w32 (c .before .before .before .before .before .before .args .v) (c .before .before .before .before .before .before .fits .v)))) (c .before .before .before .before .before .before .pre .1), search (none, three))
 
 put-spaced-requires-2 : tie.Need-put-spaced-requires-2
-put-spaced-requires-2 c κs = (omega (arith, c .before .before .before .before .before .before .before .put-value .ensures .1, c .before .before .before .before .before .before .before .put-value .ensures .0 .long, c .before .before .before .put-spaced .ensures .1, c .before .before .before .put-spaced .ensures .0 .long, c .before .before .before .before .before .before .before .before .before .before .pre .0), subst (λ (n : ℕ). n ≤ largest) (ap natAbs (sym (toZ-ofZ w32 (c .before .before .before .before .before .before .before .before .before .before .args .v) (c .before .before .before .before .before .before .before .before .before .before .fits .v)))) (c .before .before .before .before .before .before .before .before .before .before .pre .1), three)
+put-spaced-requires-2 c κs = (omega (arith, c .before .before .before .before .before .before .before .put-value .ensures .1, c .before .before .before .before .before .before .before .put-value .ensures .0 .long, c .before .before .before .put-spaced .ensures .1, c .before .before .before .put-spaced .ensures .0 .long, c .before .before .before .before .before .before .before .before .before .before .pre .0), subst (λ (n : ℕ). n ≤ largest) (ap natAbs (sym (toZ-ofZ w32 (c .before .before .before .before .before .before .before .before .before .before .args .v) (c .before .before .before .before .before .before .before .before .before .before .fits .v)))) (c .before .before .before .before .before .before .before .before .before .before .pre .1), search (none, three))
 
 put-byte-requires : tie.Need-put-byte-requires
 put-byte-requires c κs = omega (arith, c .before .before .before .before .before .before .before .before .before .before .before .put-value .ensures .1, c .before .before .before .before .before .before .before .before .before .before .before .put-value .ensures .0 .long, c .before .before .before .before .before .before .before .put-spaced .ensures .1, c .before .before .before .before .before .before .before .put-spaced .ensures .0 .long, c .before .before .before .put-spaced2 .ensures .1, c .before .before .before .put-spaced2 .ensures .0 .long, c .before .before .before .before .before .before .before .before .before .before .before .before .before .before .pre .0)

@@ -26,7 +26,7 @@ add-cleared c =
       arith,
       handed-held _ _ (a .book) (a .number) _ (a .window) _
           (c .before .before .before .before .before .before .before .before .before .before .before .pre .0)
-          (c .before .before .before .before .before .before .before .ask .ensures) (c .before .handed-of .ensures),
+          (c .before .before .before .before .before .before .before .ask .ensures) (c .before .handed-of .ensures .answer),
       c .before .before .before .before .before .before .before .before .before .before .before .pre .1,
     )
 
@@ -41,7 +41,7 @@ returns c =
     let a = c .before .before .before .before .before .before .before .before .before .before .before .before .args in (
       after-ask _ _ (a .book) (a .number) _ (a .window) _ _
           (c .before .before .before .before .before .before .before .before .before .before .before .before .pre .0)
-          (c .before .before .before .before .before .before .before .before .ask .ensures) (c .before .before .handed-of .ensures)
+          (c .before .before .before .before .before .before .before .before .ask .ensures) (c .before .before .handed-of .ensures .answer)
           (c .remembered-of .ensures),
       refl,
     )

@@ -19,7 +19,7 @@ count-of-requires : tie.Need-count-of-requires
 count-of-requires c κs = search needs
 
 add-accepted : tie.Need-add-accepted
-add-accepted c = omega (arith, c .before .count-of .ensures .1)
+add-accepted c = omega (arith, c .before .count-of .ensures .few)
 
 same-length : tie.Need-same-length
 same-length c = search needs
@@ -27,8 +27,8 @@ same-length c = search needs
 returns : tie.Need-returns
 returns c = (
   after-increment _ _ _ _ _ _ (c .before .before .before .before .before .before .before .before .before .before .before .pre .0)
-      (c .before .before .before .before .before .before .before .increment .ensures) (c .before .count-of .ensures .0),
-  omega (arith, c .before .count-of .ensures .1),
+      (c .before .before .before .before .before .before .before .increment .ensures) (c .before .count-of .ensures .answer),
+  omega (arith, c .before .count-of .ensures .few),
 )
 
 pub increment-once-spec : {M : Type 1} → statement M
