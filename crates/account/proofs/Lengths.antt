@@ -1,19 +1,18 @@
 -- How long each line is.
 -- Assumes nothing.
-use mathlib.Core.Path.{_≡_, refl, sym, ap, _∙_}
+use mathlib.Core.Path.{_≡_, sym, ap, _∙_}
 use mathlib.Core.Bool.{Bool}
 use mathlib.Core.List.{List, [], _∷_, _++_}
 use Prim.Native.Nat.{ℕ, _+_, _^_, _<_, _≤_}
 use native.Mathlib.Omega.{arith}
 use borrow.Author.Tests.{eq-eqb, ne-eqb}
-use lib.Dec.{eqb}
 use lib.ListN.{length, take, length-append}
 use Rattle.ground.specs.Choice.{pick}
 use Rattle.text.specs.Texts.{shortest-few}
 use Rattle.text.proofs.Texts.{digits-few, shortest-is}
 use Rattle.io.specs.Digits.{digits, Fewest}
 use Rattle.account.specs.declared.Entry.{Entry}
-use Rattle.account.specs.Meaning.{decimalText, refusedText, endingText, openedText, incrementedText, flippedText, askedText, notAskedText, ledgerText, lineOf}
+use Rattle.account.specs.Meaning.{decimalText, refusedText, endingText, openedText, incrementedText, askedText, notAskedText, ledgerText, lineOf}
 use Rattle.account.specs.Promise.{WritePromise}
 
 -- as many digits as were put are the number's, at most twenty

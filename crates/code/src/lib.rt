@@ -10,7 +10,7 @@ ghost use Rattle.code.specs.Answers.{packedPaper, unpackedPaper};
 ghost use Rattle.code.specs.Promise.{SignPromise};
 
 // The largest magnitude that is packed.
-const LARGEST: u32 = 33554431;
+pub const LARGEST: u32 = 33554431;
 
 // What writing a code answers: the next bit position, or why nothing was written.
 pub enum Packed {

@@ -2,8 +2,8 @@
 use crate::Line;
 use crate::fresh_line;
 use crate::taken;
+use code::LARGEST;
 use text::ENOUGH;
-use text::LARGEST;
 ghost use mathlib.Core.Path.{_≡_};
 ghost use mathlib.Core.Bool.{not};
 ghost use Prim.Native.Nat.{_+_, _≤_};

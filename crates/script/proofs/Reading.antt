@@ -1,6 +1,6 @@
 -- Letters, spaces and digits, byte after byte; numbers, asks and orders.
 -- Assumes nothing.
-use mathlib.Core.Path.{_≡_, refl, sym, ap, ap₂, _∙_, subst}
+use mathlib.Core.Path.{_≡_, refl, sym, ap, _∙_}
 use mathlib.Core.Bool.{Bool}
 use mathlib.Core.List.{List, [], _∷_}
 use Prim.Native.Nat.{ℕ, _+_, _-_, _*_, _%_, _<_, _≤_}
@@ -8,15 +8,15 @@ use native.Mathlib.Numerals.{add-one}
 use native.Mathlib.Nat.{le-refl}
 use native.Mathlib.Omega.{arith}
 use borrow.Author.Tests.{lt-leb, le-leb, lt-ltb, le-ltb, eq-eqb, ne-eqb}
-use lib.Dec.{leb, ltb, eqb}
+use lib.Dec.{ltb}
 use lib.ListN.{length, drop, getD, drop-of-length-le}
 use lib.Seq.{drop-cons}
 use Rattle.ground.specs.Choice.{pick}
 use Rattle.script.specs.declared.Number.{Number}
 use Rattle.script.specs.declared.Order.{Order}
 use Rattle.script.specs.declared.Read.{Read}
-use Rattle.script.specs.Meaning.{openFrom, pastSpaces, digitOf, withDigit, digitsFrom, numberRead, readTo, askOf, askRead, letterRead, orderRead}
-use Rattle.script.specs.Promise.{OpenPromise, NumberPromise, OrderPromise}
+use Rattle.script.specs.Meaning.{openFrom, pastSpaces, digitOf, withDigit, digitsFrom, numberRead, readTo, askOf, askRead, letterRead}
+use Rattle.script.specs.Promise.{NumberPromise, OrderPromise}
 
 -- ---- a byte's digit
 

@@ -1,18 +1,18 @@
 -- Reading goes on, and stays inside the script.
 -- Assumes nothing.
-use mathlib.Core.Path.{_≡_, refl, sym, ap, _∙_, subst}
+use mathlib.Core.Path.{_≡_, sym, ap, _∙_, subst}
 use mathlib.Core.Bool.{Bool}
 use mathlib.Core.List.{List, [], _∷_}
 use Prim.Native.Nat.{ℕ, suc, _+_, _-_, _<_, _≤_}
 use native.Mathlib.Omega.{arith}
 use borrow.Author.Tests.{lt-leb}
-use lib.Dec.{leb, eqb}
+use lib.Dec.{eqb}
 use lib.ListN.{length, drop, getD, length-drop}
 use Rattle.ground.specs.Choice.{pick, pick-elim}
 use Rattle.script.specs.declared.Number.{Number}
 use Rattle.script.specs.declared.Order.{Order}
 use Rattle.script.specs.declared.Read.{Read}
-use Rattle.script.specs.Meaning.{openFrom, pastSpaces, digitOf, withDigit, digitsFrom, numberRead, askOf, askRead, letterRead, orderRead}
+use Rattle.script.specs.Meaning.{openFrom, pastSpaces, digitOf, withDigit, digitsFrom, numberRead, askRead, letterRead}
 use Rattle.script.specs.Promise.{OpenPromise, NumberPromise, OrderPromise}
 
 -- a place from one on, and not past another

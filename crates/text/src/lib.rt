@@ -12,13 +12,11 @@ ghost use Rattle.code.specs.Shapes.{Drop};
 ghost use Rattle.text.specs.Meaning.{enough, shortest, codeText, valueText, numberText};
 ghost use Rattle.text.specs.Promise.{NumberPromise, TextPromise};
 ghost use Rattle.text.specs.Texts.{Put, nextOf};
+use code::LARGEST;
 use code::Packed;
 
 // The room that any number's line fits.
 pub const ENOUGH: usize = 80;
-
-// The largest magnitude of a number that has a line.
-pub const LARGEST: u32 = 33554431;
 
 // Puts text into a room from a place on, and answers the place after it; where it does not fit nothing, and the place itself.
 pub fn put_text(room: &mut [u8], at: usize, text: &[u8]) -> usize
