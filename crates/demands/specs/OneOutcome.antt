@@ -37,7 +37,7 @@ pub use Rattle.printing.specs.OneOutcome.{header-one as printing-header-one, pi
 -- the script of a soak, the lines of its account, and its tally
 pub use Rattle.script.specs.OneOutcome.{open-one as script-open-one, number-one as script-number-one, order-one}
 pub use Rattle.account.specs.OneOutcome.{write-one as account-write-one}
-pub use Rattle.tally.specs.OneOutcome.{count-one, handed-one}
+pub use Rattle.tally.specs.OneOutcome.{count-one as tally-count-one, handed-one as tally-handed-one}
 -- what a test program is fed
 pub use Rattle.feed.specs.OneOutcome.{next-one, front-one, after-one, byte-one, two-one, four-one, eight-one}
 -- a state as words
