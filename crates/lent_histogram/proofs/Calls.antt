@@ -1,4 +1,4 @@
--- The exported histogram calls: what the library's own calls promise, as what is left of lent memory and lent words.
+-- The histogram calls on lent words: what the library's own calls promise, as what is left of lent memory and lent words.
 -- Assumes nothing.
 use mathlib.Core.Path.{_≡_, refl, ap, sym, subst, _∙_}
 use mathlib.Core.List.{List}
@@ -20,18 +20,18 @@ use Rattle.stored.specs.Answers.{restoredPaper}
 use Rattle.stored.specs.Meaning.{stateOf, storeLeaves}
 use Rattle.stored.specs.Promise.{RestorePromise, StorePromise}
 use Rattle.stored.specs.declared.Restored.{Restored}
-use Rattle.lent_histogram.specs.Meaning.{Leaves, againOf, askLeaves, exported, flipLeaves, incrementLeaves, openLeaves, openedAnswer, openedWords, refuse, storing, sumOf}
+use Rattle.lent_histogram.specs.Meaning.{Leaves, againOf, askLeaves, worded, flipLeaves, incrementLeaves, openLeaves, openedAnswer, openedWords, refuse, storing, sumOf}
 use Rattle.lent_histogram.specs.Promise.{AskPromise, FlipPromise, IncrementPromise, OpenPromise}
 
 -- a call on words that hold a state is the library's call on that state
 held : (P : Leaves → Type 0) (means : State → Outcome) (m w : List ℕ) (r : Restored) (s : State) → RestorePromise w r → r ≡ Restored.State s
-    → P (storing w (means s)) → P (exported (stateOf w) means m w)
-held P means m w r s p e = subst (λ (x : Paper State). P (exported x means m w)) (sym (ap restoredPaper e) ∙ p .answer)
+    → P (storing w (means s)) → P (worded (stateOf w) means m w)
+held P means m w r s p e = subst (λ (x : Paper State). P (worded x means m w)) (sym (ap restoredPaper e) ∙ p .answer)
 
 -- a call on words that hold no state is refused by 13
 none : (P : Leaves → Type 0) (means : State → Outcome) (m w : List ℕ) (r : Restored) → RestorePromise w r → r ≡ Restored.NoState
-    → P (refuse 13 m w) → P (exported (stateOf w) means m w)
-none P means m w r p e = subst (λ (x : Paper State). P (exported x means m w)) (sym (ap restoredPaper e) ∙ p .answer)
+    → P (refuse 13 m w) → P (worded (stateOf w) means m w)
+none P means m w r p e = subst (λ (x : Paper State). P (worded x means m w)) (sym (ap restoredPaper e) ∙ p .answer)
 
 -- an increment on a state
 pub incremented : (m : List ℕ) (s : State) (address : ℕ) (made : Incremented) (m′ : List ℕ) (n : ℕ)

@@ -1,4 +1,4 @@
--- The exported histogram calls: the library's own calls on the state that ten lent words hold.
+-- The histogram calls on lent words: the library's own calls on the state that ten lent words hold.
 -- Assumes nothing.
 use mathlib.Core.Bool.{not}
 use mathlib.Core.List.{List}
@@ -13,7 +13,7 @@ use Rattle.histogram.specs.declared.State.{State}
 use Rattle.pages.specs.declared.Window.{Window}
 use Rattle.stored.specs.Meaning.{stateOf, storeLeaves}
 
--- what an exported call leaves: its answer, the memory, the state's words
+-- what a call on lent words leaves: its answer, the memory, the state's words
 pub record Leaves : Type 0 where
   pub answer : Paper Value
   pub memory : List ℕ
@@ -28,22 +28,22 @@ abbrev pub storing : List ℕ → Outcome → Leaves
 storing words o = record { answer = o .answer; memory = o .memory; words = storeLeaves words (o .state) }
 
 -- a call on the state that the words hold; where they hold none it is refused, and all stays
-abbrev pub exported : Paper State → (State → Outcome) → List ℕ → List ℕ → Leaves
-exported (accepted s) means memory words = storing words (means s)
-exported (refused n) means memory words = refuse n memory words
-exported (refusedWith n x) means memory words = refuse n memory words
+abbrev pub worded : Paper State → (State → Outcome) → List ℕ → List ℕ → Leaves
+worded (accepted s) means memory words = storing words (means s)
+worded (refused n) means memory words = refuse n memory words
+worded (refusedWith n x) means memory words = refuse n memory words
 
 -- an increment
 unfoldable pub incrementLeaves : List ℕ → List ℕ → ℕ → Leaves
-incrementLeaves memory words address = exported (stateOf words) (λ s. incrementMeans memory s address) memory words
+incrementLeaves memory words address = worded (stateOf words) (λ s. incrementMeans memory s address) memory words
 
 -- a flip
 unfoldable pub flipLeaves : List ℕ → List ℕ → Leaves
-flipLeaves memory words = exported (stateOf words) (λ s. flipMeans memory s) memory words
+flipLeaves memory words = worded (stateOf words) (λ s. flipMeans memory s) memory words
 
 -- an ask
 unfoldable pub askLeaves : List ℕ → List ℕ → ℕ → Window → Leaves
-askLeaves memory words number w = exported (stateOf words) (λ s. askMeans memory s number w) memory words
+askLeaves memory words number w = worded (stateOf words) (λ s. askMeans memory s number w) memory words
 
 -- the state's words after opening: the opened state in front, or as they were
 abbrev pub openedWords : Paper State → List ℕ → List ℕ

@@ -1,4 +1,4 @@
--- Two outcomes that meet an exported histogram call's promise are equal: number, memory, words, and what is written through lent places.
+-- Two outcomes that meet the promise of a histogram call on lent words are equal: number, memory, words, and what is written through lent places.
 -- Assumes nothing.
 use mathlib.Core.Path.{_≡_}
 use mathlib.Core.List.{List}

@@ -1,4 +1,4 @@
--- What each exported histogram call promises, by what it leaves: one record a call.
+-- What each histogram call on lent words promises, by what it leaves: one record a call.
 -- Assumes nothing.
 use mathlib.Core.Path.{_≡_}
 use mathlib.Core.List.{List}

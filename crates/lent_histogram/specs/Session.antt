@@ -1,4 +1,4 @@
--- A session of exported histogram calls: lent memory and words go through what the library's own memory and state go through.
+-- A session of calls on lent words: lent memory and words go through what the library's own memory and state go through.
 -- Assumes nothing.
 use mathlib.Core.Bool.{Bool, true, false, not}
 use mathlib.Core.Path.{_≡_, refl, ap, sym, _∙_}
@@ -23,27 +23,27 @@ use Rattle.turn.specs.declared.Turn.{Turn}
 use Rattle.turn.specs.declared.Turn.the-variants.{NewAsk, LastAsk, OtherWindow, OutOfTurn}
 use Rattle.stored.specs.Forms.{AskFits, KeptFits, held-fits, holds, store-restores}
 use Rattle.stored.specs.Meaning.{stateOf, storeLeaves}
-use Rattle.lent_histogram.specs.Meaning.{Leaves, askLeaves, exported, flipLeaves, incrementLeaves, openLeaves, openedAnswer, openedWords, storing}
+use Rattle.lent_histogram.specs.Meaning.{Leaves, askLeaves, worded, flipLeaves, incrementLeaves, openLeaves, openedAnswer, openedWords, storing}
 
 -- what a caller lends
 pub record Lent : Type 0 where
   pub memory : List ℕ
   pub words : List ℕ
 
--- what an exported call leaves
+-- what a call on lent words leaves
 abbrev pub callLeaves : Lent → Call → Leaves
 callLeaves x (increment address) = incrementLeaves (x .memory) (x .words) address
 callLeaves x flip = flipLeaves (x .memory) (x .words)
 callLeaves x (ask number w) = askLeaves (x .memory) (x .words) number w
 
--- one exported call: an increment is lent the words unchangeable, a flip the memory
+-- one call on lent words: an increment is lent the words unchangeable, a flip the memory
 abbrev pub stepLent : Lent → Call → Lent
 stepLent x (increment address) = record { memory = incrementLeaves (x .memory) (x .words) address .memory; words = x .words }
 stepLent x flip = record { memory = x .memory; words = flipLeaves (x .memory) (x .words) .words }
 stepLent x (ask number w) =
     record { memory = askLeaves (x .memory) (x .words) number w .memory; words = askLeaves (x .memory) (x .words) number w .words }
 
--- a sequence of exported calls
+-- a sequence of calls on lent words
 abbrev pub runLent : Lent → List Call → Lent
 runLent x [] = x
 runLent x (c ∷ cs) = runLent (stepLent x c) cs
@@ -96,10 +96,10 @@ ask-fits m s number w f g =
     (λ h. f)
 
 -- on words that hold a state a call leaves what the library's call on that state does
-held-leaves : (means : State → Outcome) (m w : List ℕ) (s : State) → stateOf w ≡ accepted s → exported (stateOf w) means m w ≡ storing w (means s)
-held-leaves means m w s e = ap (λ (p : Paper State). exported p means m w) e
+held-leaves : (means : State → Outcome) (m w : List ℕ) (s : State) → stateOf w ≡ accepted s → worded (stateOf w) means m w ≡ storing w (means s)
+held-leaves means m w s e = ap (λ (p : Paper State). worded p means m w) e
 
--- on the library's own memory and state an exported call leaves what the library's call does
+-- on the library's own memory and state a call on lent words leaves what the library's call does
 pub call-same : (x : Lent) (l : Ledger) (c : Call) → Same x l → callLeaves x c ≡ storing (x .words) (answered l c)
 unfolding incrementLeaves flipLeaves askLeaves
 call-same x l (increment address) p =
@@ -120,7 +120,7 @@ answer-same x l c p = ap (λ (o : Leaves). o .answer) (call-same x l c p)
 stored-holds : (x : Lent) (l : Ledger) (s : State) → Same x l → KeptFits (s .kept) → stateOf (storeLeaves (x .words) s) ≡ accepted s
 stored-holds x l s p f = store-restores (x .words) s (holds (x .words) (l .state) (p .state) .long) f
 
--- one exported call goes with one call of the library
+-- one call on lent words goes with one call of the library
 pub step-same : (x : Lent) (l : Ledger) (c : Call) → Same x l → Callable c → Same (stepLent x c) (step l c)
 step-same x l (increment address) p g =
     record {
@@ -143,7 +143,7 @@ step-same x l (ask number w) p g =
           (ask-fits (l .memory) (l .state) number w (held-fits (x .words) (l .state) (p .state)) g);
     }
 
--- every sequence of exported calls goes with the same sequence of the library's, so that what is shown of the library's runs holds of it
+-- every sequence of calls on lent words goes with the same sequence of the library's, so that what is shown of the library's runs holds of it
 pub run-same : (x : Lent) (l : Ledger) (cs : List Call) → Same x l → AllCallable cs → Same (runLent x cs) (run l cs)
 run-same x l [] p g = p
 run-same x l (c ∷ cs) p g = run-same (stepLent x c) (step l c) cs (step-same x l c p (g .0)) (g .1)
@@ -153,7 +153,7 @@ pub record Begins (m : List ℕ) (o : Leaves) : Type 0 where
   pub means : openMeans m ≡ accepted (fresh (length m))
   pub same : Same (record { memory = o .memory; words = o .words }) (opening m (fresh (length m)))
 
--- the library's opening is accepted where the exported one answers 0
+-- the library's opening is accepted where the one on lent words answers 0
 open-accepted : (s : State) (b : Bool) → numberOf (openedAnswer (pick b (accepted s) (refused 13))) ≡ 0 → pick b (accepted s) (refused 13) ≡ accepted s
 open-accepted s true e = refl
 open-accepted s false e = absurd (omega arith)

@@ -1,4 +1,4 @@
--- "lent memory and state stay": an exported histogram call that answers another number than 0 leaves everything that it was lent.
+-- "lent memory and state stay": a histogram call on lent words that answers another number than 0 leaves everything that it was lent.
 -- Assumes nothing.
 use mathlib.Core.Bool.{Bool, true, false, not}
 use mathlib.Core.Path.{_≡_, refl, ap, _∙_}
@@ -18,7 +18,7 @@ use Rattle.turn.specs.declared.Turn.{Turn}
 use Rattle.turn.specs.declared.Turn.the-variants.{NewAsk, LastAsk, OtherWindow, OutOfTurn}
 use Rattle.stored.specs.Forms.{store-same}
 use Rattle.stored.specs.Meaning.{stateOf, storeLeaves}
-use Rattle.lent_histogram.specs.Meaning.{Leaves, againOf, askLeaves, exported, flipLeaves, incrementLeaves, openLeaves, openedAnswer, openedWords, sumOf}
+use Rattle.lent_histogram.specs.Meaning.{Leaves, againOf, askLeaves, worded, flipLeaves, incrementLeaves, openLeaves, openedAnswer, openedWords, sumOf}
 use Rattle.lent_histogram.specs.Promise.{AskPromise, FlipPromise, IncrementPromise, OpenPromise}
 
 -- a library's call whose number is not 0 leaves memory and state
@@ -57,30 +57,30 @@ unfolding askMeans
 ask-quiet m s number w =
     pick-elim (Quiet m s) (fittingOf (length m) s) _ _ (λ h. turn-quiet (turnOf (s .kept) number w) m s number w) (λ h d. (refl, refl))
 
--- an exported call whose number is not 0 leaves memory and words
+-- a call on lent words whose number is not 0 leaves memory and words
 abbrev pub Silent : List ℕ → List ℕ → Leaves → Type 0
 Silent m w o = (numberOf (o .answer) ≡ 0 → ⊥) → (o .memory ≡ m) × (o .words ≡ w)
 
 -- a call on lent words is silent where the library's call is quiet
-exported-silent : (means : State → Outcome) (m w : List ℕ) (p : Paper State) → stateOf w ≡ p → ((s : State) → Quiet m s (means s)) → Silent m w (exported p means m w)
-exported-silent means m w (accepted s) e q = λ d. let k = q s d in (k .0, ap (storeLeaves w) (k .1) ∙ store-same w s e)
-exported-silent means m w (refused n) e q = λ d. (refl, refl)
-exported-silent means m w (refusedWith n x) e q = λ d. (refl, refl)
+worded-silent : (means : State → Outcome) (m w : List ℕ) (p : Paper State) → stateOf w ≡ p → ((s : State) → Quiet m s (means s)) → Silent m w (worded p means m w)
+worded-silent means m w (accepted s) e q = λ d. let k = q s d in (k .0, ap (storeLeaves w) (k .1) ∙ store-same w s e)
+worded-silent means m w (refused n) e q = λ d. (refl, refl)
+worded-silent means m w (refusedWith n x) e q = λ d. (refl, refl)
 
 -- an increment
 pub increment-silent : (m w : List ℕ) (address : ℕ) → Silent m w (incrementLeaves m w address)
 unfolding incrementLeaves
-increment-silent m w address = exported-silent (λ s. incrementMeans m s address) m w (stateOf w) refl (λ s. increment-quiet m s address)
+increment-silent m w address = worded-silent (λ s. incrementMeans m s address) m w (stateOf w) refl (λ s. increment-quiet m s address)
 
 -- a flip
 pub flip-silent : (m w : List ℕ) → Silent m w (flipLeaves m w)
 unfolding flipLeaves
-flip-silent m w = exported-silent (λ s. flipMeans m s) m w (stateOf w) refl (λ s. flip-quiet m s)
+flip-silent m w = worded-silent (λ s. flipMeans m s) m w (stateOf w) refl (λ s. flip-quiet m s)
 
 -- an ask
 pub ask-silent : (m w : List ℕ) (number : ℕ) (window : Window) → Silent m w (askLeaves m w number window)
 unfolding askLeaves
-ask-silent m w number window = exported-silent (λ s. askMeans m s number window) m w (stateOf w) refl (λ s. ask-quiet m s number window)
+ask-silent m w number window = worded-silent (λ s. askMeans m s number window) m w (stateOf w) refl (λ s. ask-quiet m s number window)
 
 -- what opening leaves, by a test of the memory's length
 abbrev openedLeaves : List ℕ → List ℕ → Bool → Leaves
