@@ -1,52 +1,47 @@
--- What each call promises: its number, what each lent place holds after it, and the memory that it leaves.
+-- What each call promises: its number, and what its lent place holds after it.
 -- Assumes nothing.
 use mathlib.Core.Path.{_≡_}
 use Prim.Native.Nat.{ℕ, _^_}
-use lib.ListN.{length}
 use Rattle.ground.specs.Paper.{Paper, numberOf}
 use Rattle.format.specs.Meaning.{floatValue, Takes, int24Means}
 use Rattle.cadence.specs.Meaning.{Begins, Ends, secondsMeans}
 use Rattle.lent.specs.Meaning.{left, itself}
 
--- a 16-bit float: the answer that the sentence takes; its number; its code
-pub record Float16Promise (count code r code' : ℕ) : Type 0 where
+-- a call by the paper of its answer: its number; the value in the lent place, which held another
+pub record PaperPromise (p : Paper ℕ) (held r after : ℕ) : Type 0 where
+  pub number : r ≡ numberOf p
+  pub given : after ≡ left itself p held
+
+-- a call by a sentence of document 01 that is no equation: an answer of which the sentence holds; the call by its paper
+pub record SentencePromise (Holds : Paper ℕ → Type 0) (held r after : ℕ) : Type 0 where
   pub answer : Paper ℕ
-  pub takes : Takes (floatValue 12) (2 ^ 27) count answer
-  pub number : r ≡ numberOf answer
-  pub given : code' ≡ left itself answer code
+  pub holds : Holds answer
+  pub leaves : PaperPromise answer held r after
 
--- an 8-bit float: the answer that the sentence takes; its number; its code
-pub record Float8Promise (count code r code' : ℕ) : Type 0 where
-  pub answer : Paper ℕ
-  pub takes : Takes (floatValue 3) (2 ^ 34) count answer
-  pub number : r ≡ numberOf answer
-  pub given : code' ≡ left itself answer code
+-- the 16-bit float of a count
+abbrev pub Float16Promise : ℕ → ℕ → ℕ → ℕ → Type 0
+Float16Promise count code r code' = SentencePromise (Takes (floatValue 12) (2 ^ 27) count) code r code'
 
--- a 24-bit integer of a count: the number; the code
-pub record Int24CodePromise (count code r code' : ℕ) : Type 0 where
-  pub number : r ≡ numberOf (int24Means count)
-  pub given : code' ≡ left itself (int24Means count) code
+-- the 8-bit float of a count
+abbrev pub Float8Promise : ℕ → ℕ → ℕ → ℕ → Type 0
+Float8Promise count code r code' = SentencePromise (Takes (floatValue 3) (2 ^ 34) count) code r code'
 
--- the count of a 24-bit integer: the number; the count
-pub record Int24CountPromise (code count r count' : ℕ) : Type 0 where
-  pub number : r ≡ numberOf (int24Means code)
-  pub given : count' ≡ left itself (int24Means code) count
+-- the 24-bit integer of a count
+abbrev pub Int24CodePromise : ℕ → ℕ → ℕ → ℕ → Type 0
+Int24CodePromise count code r code' = PaperPromise (int24Means count) code r code'
 
--- a level's length: the number; the seconds
-pub record LevelSecondsPromise (level seconds r seconds' : ℕ) : Type 0 where
-  pub number : r ≡ numberOf (secondsMeans level)
-  pub given : seconds' ≡ left itself (secondsMeans level) seconds
+-- the count of a 24-bit integer
+abbrev pub Int24CountPromise : ℕ → ℕ → ℕ → ℕ → Type 0
+Int24CountPromise code count r count' = PaperPromise (int24Means code) count r count'
 
--- the level that begins in a second: the answer of the sentence; its number; its level
-pub record SecondBeginningPromise (second level r level' : ℕ) : Type 0 where
-  pub answer : Paper ℕ
-  pub begins : Begins second answer
-  pub number : r ≡ numberOf answer
-  pub given : level' ≡ left itself answer level
+-- a level's seconds
+abbrev pub LevelSecondsPromise : ℕ → ℕ → ℕ → ℕ → Type 0
+LevelSecondsPromise level seconds r seconds' = PaperPromise (secondsMeans level) seconds r seconds'
 
--- the level that ends with a second: the answer of the sentence; its number; its level
-pub record SecondEndingPromise (second level r level' : ℕ) : Type 0 where
-  pub answer : Paper ℕ
-  pub ends : Ends second answer
-  pub number : r ≡ numberOf answer
-  pub given : level' ≡ left itself answer level
+-- the level that begins in a second
+abbrev pub SecondBeginningPromise : ℕ → ℕ → ℕ → ℕ → Type 0
+SecondBeginningPromise second level r level' = SentencePromise (Begins second) level r level'
+
+-- the level that ends with a second
+abbrev pub SecondEndingPromise : ℕ → ℕ → ℕ → ℕ → Type 0
+SecondEndingPromise second level r level' = SentencePromise (Ends second) level r level'

@@ -25,7 +25,7 @@ pub record CountPromise (before : List ℕ) (page : Bool) (address : ℕ) (r : C
   pub answer : countPaper r ≡ countMeans before page address .answer
   pub memory : after ≡ countMeans before page address .memory
 
--- what checking a window promises; the memory is lent unchangeable
+-- what checking a window promises, which taking it asks first and which is no public call; the memory is lent unchangeable
 pub record CheckPromise (before : List ℕ) (page : Bool) (w : Window) (r : Checked) : Type 0 where
   pub answer : checkedPaper r ≡ checkMeans before page w
 

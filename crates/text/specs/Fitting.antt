@@ -26,17 +26,23 @@ put-nothing room at =
       long = refl;
     }
 
+-- a text that is said to be put, and for which there is room, is put
+put-whole : {room said text after : List ℕ} {at r : ℕ} → said ≡ text → r ≡ at + length said → after ≡ put room at said
+    → at + length text ≤ length room → Put room at text r after
+put-whole {room} {said} {text} {after} {at} {r} whole place memory h =
+    let changed : after ≡ put room at text = memory ∙ ap (put room at) whole in
+    record {
+      memory = changed;
+      place = place ∙ ap (λ (l : List ℕ). at + length l) whole;
+      long = ap length changed ∙ length-put room at text h;
+    }
+
 -- a text for which there is room is put
 pub text-stands : {room text after : List ℕ} {at r : ℕ} → TextPromise room at text r after → at + length text ≤ length room → Put room at text r after
 text-stands {room} {text} {after} {at} {r} p h =
     let whole : fitting (length room) at (length text) text ≡ text
     = ap (λ (b : Bool). pick b text []) (le-leb (at + length text) (length room) h) in
-    let memory : after ≡ put room at text = p .memory ∙ ap (put room at) whole in
-    record {
-      memory = memory;
-      place = p .answer ∙ ap (λ (l : List ℕ). at + length l) whole;
-      long = ap length memory ∙ length-put room at text h;
-    }
+    put-whole whole (p .answer) (p .memory) h
 
 -- text that was put as far as there was room
 pub text-promised : {room text after : List ℕ} {at r : ℕ} (b : Bool) → b ≡ leb (at + length text) (length room) → Put room at (pick b text []) r after
@@ -54,12 +60,7 @@ number-stands {room} {after} {at} {r} w v e p h g =
     ∙ ap ruledText e
     ∙ ap (λ (b : Bool). pick b [] (numberText v)) (le-ltb largest (natAbs v) g) in
     let short : at + length (numberText v) ≤ length room = omega (arith, number-few v g) in
-    let memory : after ≡ put room at (numberText v) = p .memory ∙ ap (put room at) whole in
-    record {
-      memory = memory;
-      place = p .answer ∙ ap (λ (l : List ℕ). at + length l) whole;
-      long = ap length memory ∙ length-put room at (numberText v) short;
-    }
+    put-whole whole (p .answer) (p .memory) short
 
 -- a number's line that was put as far as there was room
 pub number-promised : {room after : List ℕ} {at r n : ℕ} (w v : ℤ) → w ≡ v → n ≡ natAbs w → n ≤ largest → (b : Bool) → b ≡ leb (at + enough) (length room)

@@ -4,7 +4,7 @@ use mathlib.Core.Path.{refl}
 use borrow.Author.Needs.{needs}
 use Rattle.format.specs.Answers.{code16Paper}
 use Rattle.lent.specs.Laws.{says}
-use Rattle.lent_formats.proofs.Leaving.{float16-leaves}
+use Rattle.lent_formats.proofs.Leaving.{sentence-leaves}
 use Rattle.lent_formats.proofs.float16_code.Statement.{statement}
 use Rattle.lent_formats.proofs.float16_code.Tie as tie
 
@@ -18,10 +18,10 @@ enum-told : tie.Need-enum-told
 enum-told c = search needs
 
 returns : tie.Need-returns
-returns c = float16-leaves _ _ (says code16Paper refl (c .before .float16 .given .1)) (c .before .before .before .float16-code .ensures .answer)
+returns c = sentence-leaves _ (says code16Paper refl (c .before .float16 .given .1)) (c .before .before .before .float16-code .ensures .answer)
 
 returns-2 : tie.Need-returns-2
-returns-2 c = float16-leaves _ _ (says code16Paper refl (c .enum-told .given .1)) (c .before .before .float16-code .ensures .answer)
+returns-2 c = sentence-leaves _ (says code16Paper refl (c .enum-told .given .1)) (c .before .before .float16-code .ensures .answer)
 
 pub float16-code-spec : {M : Type 1} → statement M
 float16-code-spec =

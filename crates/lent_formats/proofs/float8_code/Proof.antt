@@ -4,7 +4,7 @@ use mathlib.Core.Path.{refl}
 use borrow.Author.Needs.{needs}
 use Rattle.format.specs.Answers.{code8Paper}
 use Rattle.lent.specs.Laws.{says}
-use Rattle.lent_formats.proofs.Leaving.{float8-leaves}
+use Rattle.lent_formats.proofs.Leaving.{sentence-leaves}
 use Rattle.lent_formats.proofs.float8_code.Statement.{statement}
 use Rattle.lent_formats.proofs.float8_code.Tie as tie
 
@@ -18,10 +18,10 @@ enum-told : tie.Need-enum-told
 enum-told c = search needs
 
 returns : tie.Need-returns
-returns c = float8-leaves _ _ (says code8Paper refl (c .before .float8 .given .1)) (c .before .before .before .float8-code .ensures .answer)
+returns c = sentence-leaves _ (says code8Paper refl (c .before .float8 .given .1)) (c .before .before .before .float8-code .ensures .answer)
 
 returns-2 : tie.Need-returns-2
-returns-2 c = float8-leaves _ _ (says code8Paper refl (c .enum-told .given .1)) (c .before .before .float8-code .ensures .answer)
+returns-2 c = sentence-leaves _ (says code8Paper refl (c .enum-told .given .1)) (c .before .before .float8-code .ensures .answer)
 
 pub float8-code-spec : {M : Type 1} → statement M
 float8-code-spec =

@@ -3,7 +3,7 @@
 use borrow.Author.Needs.{needs}
 use Rattle.format.specs.Answers.{count24Paper}
 use Rattle.lent.specs.Laws.{says}
-use Rattle.lent_formats.proofs.Leaving.{int24-count-leaves}
+use Rattle.lent_formats.proofs.Leaving.{paper-leaves}
 use Rattle.lent_formats.proofs.int24_count.Statement.{statement}
 use Rattle.lent_formats.proofs.int24_count.Tie as tie
 
@@ -17,10 +17,10 @@ enum-told : tie.Need-enum-told
 enum-told c = search needs
 
 returns : tie.Need-returns
-returns c = int24-count-leaves _ _ (says count24Paper (c .before .before .before .int24-count .ensures .answer) (c .before .meant .given .1))
+returns c = paper-leaves _ (says count24Paper (c .before .before .before .int24-count .ensures .answer) (c .before .meant .given .1))
 
 returns-2 : tie.Need-returns-2
-returns-2 c = int24-count-leaves _ _ (says count24Paper (c .before .before .int24-count .ensures .answer) (c .enum-told .given .1))
+returns-2 c = paper-leaves _ (says count24Paper (c .before .before .int24-count .ensures .answer) (c .enum-told .given .1))
 
 pub int24-count-spec : {M : Type 1} → statement M
 int24-count-spec =
