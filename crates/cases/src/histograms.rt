@@ -2,15 +2,15 @@
 ghost use mathlib.Core.Path.{_≡_};
 ghost use lib.ListN.{length};
 use histogram::AskAnswer;
-use histogram::Opened;
-use histogram::State;
+use histogram::STATE_WORDS;
 use histogram::Window;
 use libc::STDOUT_FILENO;
 
 // All the lines of histogram memory.
 pub fn run() {
     let mut memory = largest();
-    all(&mut memory);
+    let mut state = [0; STATE_WORDS];
+    all(&mut memory, &mut state);
 }
 
 // The largest memory.
@@ -21,71 +21,57 @@ fn largest() -> [u32; 524288]
 }
 
 // Each case in turn.
-fn all(memory: &mut [u32]) {
-    lend_three(memory, 4);
-    lend_last(memory, 2, 0);
-    lend_last(memory, 524288, 262143);
+fn all(memory: &mut [u32], state: &mut [u64]) {
+    lend_three(memory, state, 4);
+    lend_last(memory, state, 2, 0);
+    lend_last(memory, state, 524288, 262143);
 }
 
 // Lends so many words to document 01's case.
-fn lend_three(memory: &mut [u32], words: usize) {
+fn lend_three(memory: &mut [u32], state: &mut [u64], words: usize) {
     if words <= memory.len() {
-        open_three(&mut memory[..words]);
+        three(&mut memory[..words], state);
     }
 }
 
 // Lends so many words to the case of the last counter.
-fn lend_last(memory: &mut [u32], words: usize, last: u32) {
+fn lend_last(memory: &mut [u32], state: &mut [u64], words: usize, last: u32) {
     if words <= memory.len() {
-        open_last(&mut memory[..words], last);
+        last_counter(&mut memory[..words], state, last);
     }
 }
 
 // Document 01's case: three increments at 0, a flip, and asks on cells 0 and 1.
-fn open_three(memory: &mut [u32]) {
-    match histogram::open(memory) {
-        Opened::Ready(state) => three(memory, state),
-        Opened::WrongMemory => (),
-    }
-}
-
-// The calls of document 01's case.
-fn three(memory: &mut [u32], opened: State) {
-    let counted = increments(memory, opened);
-    let flipped = flip(memory, counted);
-    asks(memory, flipped, clearing(0, 1));
+fn three(memory: &mut [u32], state: &mut [u64]) {
+    open(memory, state);
+    increments(memory, state);
+    flip(memory, state);
+    asks(memory, state, clearing(0, 1));
 }
 
 // Three increments at 0.
-fn increments(memory: &mut [u32], opened: State) -> State {
-    let one = increment(memory, opened, 0);
-    let two = increment(memory, one, 0);
-    increment(memory, two, 0)
+fn increments(memory: &mut [u32], state: &[u64]) {
+    increment(memory, state, 0);
+    increment(memory, state, 0);
+    increment(memory, state, 0);
 }
 
 // The asks 1, 1 again, 2 and 4.
-fn asks(memory: &mut [u32], flipped: State, window: Window) {
-    let new = ask(memory, flipped, 1, window);
-    let again = ask(memory, new, 1, window);
-    let second = ask(memory, again, 2, window);
-    ask(memory, second, 4, window);
+fn asks(memory: &mut [u32], state: &mut [u64], window: Window) {
+    ask(memory, state, 1, window);
+    ask(memory, state, 1, window);
+    ask(memory, state, 2, window);
+    ask(memory, state, 4, window);
 }
 
 // One increment at the last address, a flip, an ask of it, and an increment past it.
-fn open_last(memory: &mut [u32], last: u32) {
-    match histogram::open(memory) {
-        Opened::Ready(state) => last_counter(memory, state, last),
-        Opened::WrongMemory => (),
-    }
-}
-
-// The calls of the case of the last counter.
-fn last_counter(memory: &mut [u32], opened: State, last: u32) {
-    let counted = increment(memory, opened, last);
-    let flipped = flip(memory, counted);
-    let asked = ask(memory, flipped, 1, clearing(last, 0));
+fn last_counter(memory: &mut [u32], state: &mut [u64], last: u32) {
+    open(memory, state);
+    increment(memory, state, last);
+    flip(memory, state);
+    ask(memory, state, 1, clearing(last, 0));
     if last < 262144 {
-        increment(memory, asked, last + 1);
+        increment(memory, state, last + 1);
     }
 }
 
@@ -100,38 +86,30 @@ fn clearing(address: u32, xsize: u8) -> Window {
     }
 }
 
+// Opening; a line where it is refused.
+fn open(memory: &mut [u32], state: &mut [u64]) {
+    let answer = histogram::open(memory, state);
+    refusal(b"open", histogram::open_number(answer));
+}
+
 // An increment; a line where it is refused.
-fn increment(memory: &mut [u32], state: State, address: u32) -> State {
-    let made = histogram::increment(memory, state, address);
-    let answer = made.answer;
-    let number = histogram::increment_number(answer);
-    if number != 0 {
-        word(b"increment");
-        refused(number);
-    }
-    made.state
+fn increment(memory: &mut [u32], state: &[u64], address: u32) {
+    let answer = histogram::increment(memory, state, address);
+    refusal(b"increment", histogram::increment_number(answer));
 }
 
 // A flip; a line where it is refused.
-fn flip(memory: &[u32], state: State) -> State {
-    let made = histogram::flip(memory, state);
-    let answer = made.answer;
-    let number = histogram::flip_number(answer);
-    if number != 0 {
-        word(b"flip");
-        refused(number);
-    }
-    made.state
+fn flip(memory: &[u32], state: &mut [u64]) {
+    let answer = histogram::flip(memory, state);
+    refusal(b"flip", histogram::flip_number(answer));
 }
 
 // An ask, and its line.
-fn ask(memory: &mut [u32], state: State, number: u16, window: Window) -> State {
-    let made = histogram::ask(memory, state, number, window);
-    let answer = made.answer;
+fn ask(memory: &mut [u32], state: &mut [u64], number: u16, window: Window) {
+    let answer = histogram::ask(memory, state, number, window);
     word(b"ask ");
     decimal(number as u64);
     asked(answer);
-    made.state
 }
 
 // How an ask's line ends.
@@ -153,6 +131,14 @@ fn summed(how: &[u8], sum: u64) {
     word(how);
     decimal(sum);
     word(b"\n");
+}
+
+// The line of a call that is refused.
+fn refusal(call: &[u8], number: u8) {
+    if number != 0 {
+        word(call);
+        refused(number);
+    }
 }
 
 // The end of a refused call's line.

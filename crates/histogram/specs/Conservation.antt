@@ -6,19 +6,14 @@ use mathlib.Core.List.{List, [], _∷_}
 use Prim.Native.Nat.{ℕ, zero, suc, _+_, _<_}
 use native.Mathlib.Omega.{arith}
 use lib.ListN.{length, getD, set, replicate}
-use Rattle.ground.specs.Choice.{pick, pick-elim}
+use Rattle.ground.specs.Choice.{pick}
 use Rattle.ground.specs.Paper.{accepted}
-use Rattle.histogram.specs.Fresh.{is-opened}
 use Rattle.pages.specs.Layout.{placeOf, within}
-use Rattle.pages.specs.Outcomes.{count-elim, take-elim}
-use Rattle.pages.specs.Meaning.{PageOutcome, Walk, cellsOf, visitOf, walkOf, wordOf}
-use Rattle.turn.specs.Meaning.{turnOf}
-use Rattle.histogram.specs.Meaning.{Outcome, counting, taking, askMeans, fittingOf, flipMeans, incrementMeans, newMeans, openMeans, turnMeans}
+use Rattle.pages.specs.Meaning.{Walk, cellsOf, visitOf, walkOf, wordOf}
+use Rattle.histogram.specs.Meaning.{Outcome, done, openMeans, refuse}
+use Rattle.histogram.specs.Outcomes.{call-elim, is-opened}
 use Rattle.histogram.specs.Runs.{Call, increment, flip, ask, Ledger, acceptedBy, callMeans, clearedBy, opening, run, step, total}
-use Rattle.pages.specs.declared.Window.{Window}
-use Rattle.histogram.specs.declared.State.{State}
-use Rattle.turn.specs.declared.Turn.{Turn}
-use Rattle.turn.specs.declared.Turn.the-variants.{NewAsk, LastAsk, OtherWindow, OutOfTurn}
+use Rattle.histogram.specs.Words.{pageIn}
 
 -- a word replaced: the total changes by the difference
 pub total-set : (l : List ℕ) (i v : ℕ) → i < length l → total (set l i v) + getD l i 0 ≡ total l + v
@@ -66,49 +61,20 @@ walk-conserves page false m cells = ap (λ (l : List ℕ). total l + 0) (walk-ke
 abbrev pub Conserves : List ℕ → Call → Outcome → Type 0
 Conserves m c o = total (o .memory) + clearedBy c (o .answer) ≡ total m + acceptedBy c (o .answer)
 
--- an increment conserves
-pub increment-conserves : (m : List ℕ) (s : State) (address : ℕ) → Conserves m (increment address) (incrementMeans m s address)
-unfolding incrementMeans
-increment-conserves m s address =
-    pick-elim (λ (o : Outcome). Conserves m (increment address) o) (fittingOf (length m) s) _ _
-    (λ h. count-elim (λ (o : PageOutcome (Unit {0})). Conserves m (increment address) (counting s o)) m (s .second) address
-    (λ k. omega (arith, total-set m (placeOf (length m) (s .second) address) (wordOf m (s .second) address + 1) (within (length m) (s .second) address k)))
-    (λ n. refl))
-    (λ h. refl)
-
--- a flip conserves
-pub flip-conserves : (m : List ℕ) (s : State) → Conserves m flip (flipMeans m s)
-unfolding flipMeans
-flip-conserves m s = pick-elim (λ (o : Outcome). Conserves m flip o) (fittingOf (length m) s) _ _ (λ h. refl) (λ h. refl)
-
--- a new ask conserves
-pub new-conserves : (m : List ℕ) (s : State) (number : ℕ) (w : Window) → Conserves m (ask number w) (newMeans m s number w)
-unfolding newMeans
-new-conserves m s number w =
-    take-elim (λ (o : PageOutcome ℕ). Conserves m (ask number w) (taking s number w o)) m (not (s .second)) w
-    (λ h. walk-conserves (not (s .second)) (w .clear) m (cellsOf w))
-    (λ n. refl)
-
--- an ask of any turn conserves
-pub turn-conserves : (t : Turn) (m : List ℕ) (s : State) (number : ℕ) (w : Window) → Conserves m (ask number w) (turnMeans t m s number w)
-turn-conserves NewAsk m s number w = new-conserves m s number w
-turn-conserves (LastAsk sum) m s number w = refl
-turn-conserves OtherWindow m s number w = refl
-turn-conserves OutOfTurn m s number w = refl
-
--- an ask conserves
-pub ask-conserves : (m : List ℕ) (s : State) (number : ℕ) (w : Window) → Conserves m (ask number w) (askMeans m s number w)
-unfolding askMeans
-ask-conserves m s number w =
-    pick-elim (λ (o : Outcome). Conserves m (ask number w) o) (fittingOf (length m) s) _ _
-    (λ h. turn-conserves (turnOf (s .kept) number w) m s number w)
-    (λ h. refl)
+-- a refusal conserves
+refusal-conserves : (m w : List ℕ) (c : Call) (n : ℕ) → Conserves m c (refuse n m w)
+refusal-conserves m w (increment address) n = refl
+refusal-conserves m w flip n = refl
+refusal-conserves m w (ask number v) n = refl
 
 -- every call conserves, on any memory and any state
-pub call-conserves : (m : List ℕ) (s : State) (c : Call) → Conserves m c (callMeans m s c)
-call-conserves m s (increment address) = increment-conserves m s address
-call-conserves m s flip = flip-conserves m s
-call-conserves m s (ask number w) = ask-conserves m s number w
+pub call-conserves : (m w : List ℕ) (c : Call) → Conserves m c (callMeans m w c)
+call-conserves m w =
+    call-elim (Conserves m) m w (refusal-conserves m w)
+    (λ h a k. omega (arith, total-set m (placeOf (length m) (pageIn w) a) (wordOf m (pageIn w) a + 1) (within (length m) (pageIn w) a k)))
+    (λ h. refl)
+    (λ h number v k t. walk-conserves (not (pageIn w)) (v .clear) m (cellsOf v))
+    (λ h number sum v. refl)
 
 -- the ledger's account: what is held and what was cleared are what was accepted
 abbrev pub Balanced : Ledger → Type 0
@@ -124,9 +90,9 @@ run-balanced l [] b = b
 run-balanced l (c ∷ cs) b = run-balanced (step l c) cs (step-balanced l c b)
 
 -- an opened memory holds zeros alone
-pub opened-balanced : (m : List ℕ) (s : State) → openMeans m ≡ accepted s → Balanced (opening m s)
-opened-balanced m s e = omega (arith, total-zeros (length m), ap total (is-opened m s e .words))
+pub opened-balanced : (m w : List ℕ) → openMeans m w .answer ≡ accepted done → Balanced (opening m w)
+opened-balanced m w e = omega (arith, total-zeros (length m), ap (λ (o : Outcome). total (o .memory)) (is-opened m w e .left))
 
 -- demand 3: for every N, every sequence of calls from freshly opened memory, refused calls among them, held plus cleared equals accepted
-pub conservation : (m : List ℕ) (s : State) → openMeans m ≡ accepted s → (cs : List Call) → Balanced (run (opening m s) cs)
-conservation m s e cs = run-balanced (opening m s) cs (opened-balanced m s e)
+pub conservation : (m w : List ℕ) → openMeans m w .answer ≡ accepted done → (cs : List Call) → Balanced (run (opening m w) cs)
+conservation m w e cs = run-balanced (opening m w) cs (opened-balanced m w e)

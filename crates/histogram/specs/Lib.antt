@@ -1,10 +1,13 @@
+pub mod Words
+pub mod Turns
 pub mod Meaning
 pub mod Answers
 pub mod Promise
 pub mod OneOutcome
-pub mod Pages
-pub mod Fresh
+pub mod States
 pub mod Runs
+pub mod Outcomes
+pub mod Pages
 pub mod Conservation
 pub mod Stays
 pub mod Repeat

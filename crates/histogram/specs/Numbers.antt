@@ -6,22 +6,21 @@ use mathlib.Core.List.{List}
 use Prim.Native.Nat.{ℕ, _+_}
 use native.Mathlib.Omega.{arith}
 use lib.Dec.{eqb}
-use lib.ListN.{length}
+use lib.ListN.{length, length-replicate}
 use borrow.Author.Tests.{eqb-true, ne-eqb}
 use Rattle.ground.specs.Choice.{pick-elim}
 use Rattle.ground.specs.Paper.{accepted, refused}
-use Rattle.histogram.specs.Fresh.{is-opened, opened-fits}
-use Rattle.turn.specs.Meaning.{nextOf, sameOf, turnOf}
-use Rattle.histogram.specs.Meaning.{new, askMeans, fittingOf, openMeans}
-use Rattle.histogram.specs.Runs.{Call, ask, Ledger, NoNew, answered, opening, run, step}
 use Rattle.pages.specs.declared.Window.{Window}
-use Rattle.turn.specs.declared.Kept.{Kept}
-use Rattle.turn.specs.declared.Kept.the-variants.{Nothing, Last}
-use Rattle.histogram.specs.declared.State.{State}
-use Rattle.turn.specs.declared.Turn.{Turn}
-use Rattle.turn.specs.declared.Turn.the-variants.{NewAsk}
-use Rattle.histogram.specs.Stays.{run-stays}
+use Rattle.histogram.specs.Meaning.{Outcome, askMeans, done, fittingOf, new, openMeans}
+use Rattle.histogram.specs.Outcomes.{IsOpened, is-opened}
 use Rattle.histogram.specs.Repeat.{is-new, stays-kept}
+use Rattle.histogram.specs.Runs.{Call, ask, Ledger, NoNew, answered, opening, run, step}
+use Rattle.histogram.specs.States.{fresh-fits}
+use Rattle.histogram.specs.Stays.{run-stays}
+use Rattle.histogram.specs.Turns.{nextOf, sameOf, turnOf}
+use Rattle.histogram.specs.Words.{Kept, Last, Nothing, freshIn, keptIn}
+use Rattle.histogram.specs.declared.turn.Turn.{Turn}
+use Rattle.histogram.specs.declared.turn.Turn.the-variants.{NewAsk}
 
 -- the number that a new ask must bear, beside what is kept: "the number after the last accepted, 1 after opening"
 abbrev pub turnNumber : Kept → ℕ
@@ -52,41 +51,45 @@ new-number (Last k v sum) number w =
     (λ g e. absurd (let z : _≡_ {A = ℕ} 0 1 = cc in omega arith)))
 
 -- a new ask, on any memory and state, bears the number whose turn it is
-pub new-bears : (m : List ℕ) (s : State) (number sum : ℕ) (w : Window) → askMeans m s number w .answer ≡ accepted (new sum) → number ≡ turnNumber (s .kept)
-new-bears m s number sum w e = new-number (s .kept) number w (is-new m s number sum w e .turn)
+pub new-bears : (m w : List ℕ) (number sum : ℕ) (v : Window) → askMeans m w number v .answer ≡ accepted (new sum) → number ≡ turnNumber (keptIn w)
+new-bears m w number sum v e = new-number (keptIn w) number v (is-new m w number sum v e .turn)
 
--- the first new ask after opening bears number 1, whatever calls lie before it
-pub first-number : (m : List ℕ) (s : State) → openMeans m ≡ accepted s → (cs : List Call) → NoNew (opening m s) cs → (number sum : ℕ) (w : Window)
-    → answered (run (opening m s) cs) (ask number w) .answer ≡ accepted (new sum) → number ≡ 1
-first-number m s o cs n number sum w e =
-    new-bears (run (opening m s) cs .memory) (run (opening m s) cs .state) number sum w e
-    ∙ ap turnNumber (run-stays (opening m s) cs n .1 ∙ ap (λ (t : State). t .kept) (is-opened m s o .state))
+module _ (m w : List ℕ) (o : openMeans m w .answer ≡ accepted done) where
+  -- an opened memory fits its state
+  opened-fits : fittingOf (length (opening m w .memory)) (opening m w .state) ≡ true
+  opened-fits =
+      let i : IsOpened m w (openMeans m w) = is-opened m w o in
+      ap (λ (x : Outcome). fittingOf (length (x .memory)) (x .state)) (i .left)
+      ∙ ap (λ (n : ℕ). fittingOf n (freshIn w (length m))) (length-replicate (length m) 0)
+      ∙ fresh-fits w (length m) (i .taken)
+
+  -- and nothing is kept
+  opened-keeps : keptIn (opening m w .state) ≡ Nothing
+  opened-keeps = ap (λ (x : Outcome). keptIn (x .state)) (is-opened m w o .left)
+
+  -- the first new ask after opening bears number 1, whatever calls lie before it
+  pub first-number : (cs : List Call) → NoNew (opening m w) cs → (number sum : ℕ) (v : Window)
+      → answered (run (opening m w) cs) (ask number v) .answer ≡ accepted (new sum) → number ≡ 1
+  first-number cs n number sum v e =
+      new-bears (run (opening m w) cs .memory) (run (opening m w) cs .state) number sum v e
+      ∙ ap turnNumber (run-stays (opening m w) cs n .1 ∙ opened-keeps)
+
+  -- after opening, and whatever calls with no new ask among them, every number but 1 is out of turn
+  pub out-of-turn : (cs : List Call) → NoNew (opening m w) cs → (number : ℕ) (v : Window) → (number ≡ 1 → ⊥)
+      → answered (run (opening m w) cs) (ask number v) .answer ≡ refused 17
+  unfolding askMeans
+  out-of-turn cs n number v h =
+      let r = run-stays (opening m w) cs n in
+      rw (r .0 ∙ opened-fits, r .1 ∙ opened-keeps, ne-eqb number 1 h)
+
+  -- "After opening nothing is kept and number 0 is out of turn"
+  pub zero-out-of-turn : (cs : List Call) → NoNew (opening m w) cs → (v : Window) → answered (run (opening m w) cs) (ask 0 v) .answer ≡ refused 17
+  zero-out-of-turn cs n v = out-of-turn cs n 0 v (λ e. omega arith)
 
 -- the next new ask bears the number after the last accepted one's, whatever calls lie between
-pub next-number : (l : Ledger) (number sum : ℕ) (w : Window) (later : List Call) → answered l (ask number w) .answer ≡ accepted (new sum)
-    → NoNew (step l (ask number w)) later
-    → (number′ sum′ : ℕ) (w′ : Window) → answered (run (step l (ask number w)) later) (ask number′ w′) .answer ≡ accepted (new sum′) → number′ ≡ nextOf number
-next-number l number sum w later e n number′ sum′ w′ e′ =
-    new-bears (run (step l (ask number w)) later .memory) (run (step l (ask number w)) later .state) number′ sum′ w′ e′
-    ∙ ap turnNumber (stays-kept l number sum w later e n .1)
-
--- where nothing is kept every number but 1 is out of turn
-pub nothing-kept : (m : List ℕ) (s : State) (number : ℕ) (w : Window) → fittingOf (length m) s ≡ true → s .kept ≡ Nothing → (number ≡ 1 → ⊥)
-    → askMeans m s number w .answer ≡ refused 17
-unfolding askMeans
-nothing-kept m s number w f k h = rw (f, k, ne-eqb number 1 h)
-
--- after opening, and whatever calls with no new ask among them, every number but 1 is out of turn
-pub out-of-turn : (m : List ℕ) (s : State) → openMeans m ≡ accepted s → (cs : List Call) → NoNew (opening m s) cs → (number : ℕ) (w : Window) → (number ≡ 1 → ⊥)
-    → answered (run (opening m s) cs) (ask number w) .answer ≡ refused 17
-out-of-turn m s o cs n number w h =
-    let r = run-stays (opening m s) cs n in
-    nothing-kept (run (opening m s) cs .memory) (run (opening m s) cs .state) number w
-    (r .0 ∙ opened-fits m s o)
-    (r .1 ∙ ap (λ (t : State). t .kept) (is-opened m s o .state))
-    h
-
--- "After opening nothing is kept and number 0 is out of turn"
-pub zero-out-of-turn : (m : List ℕ) (s : State) → openMeans m ≡ accepted s → (cs : List Call) → NoNew (opening m s) cs → (w : Window)
-    → answered (run (opening m s) cs) (ask 0 w) .answer ≡ refused 17
-zero-out-of-turn m s o cs n w = out-of-turn m s o cs n 0 w (λ e. omega arith)
+pub next-number : (l : Ledger) (number sum : ℕ) (v : Window) (later : List Call) → answered l (ask number v) .answer ≡ accepted (new sum)
+    → NoNew (step l (ask number v)) later
+    → (number′ sum′ : ℕ) (v′ : Window) → answered (run (step l (ask number v)) later) (ask number′ v′) .answer ≡ accepted (new sum′) → number′ ≡ nextOf number
+next-number l number sum v later e n number′ sum′ v′ e′ =
+    new-bears (run (step l (ask number v)) later .memory) (run (step l (ask number v)) later .state) number′ sum′ v′ e′
+    ∙ ap turnNumber (stays-kept l number sum v later e n .1)

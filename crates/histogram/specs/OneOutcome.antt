@@ -1,62 +1,59 @@
 -- Two outcomes that meet a call's promise are equal: answer, memory and state.
 -- Assumes nothing.
-use mathlib.Core.Path.{_≡_, ap₂}
+use mathlib.Core.Path.{_≡_, ap}
 use mathlib.Core.List.{List}
 use Prim.Native.Nat.{ℕ}
 use Rattle.ground.specs.Paper.{numberOf, one-answer, one-value}
-use Rattle.histogram.specs.Answers.{openedPaper, openedBack, opened-home, incrementPaper, incrementBack, increment-home, flipPaper, flipBack, flip-home, askPaper, askBack, ask-home}
-use Rattle.histogram.specs.Promise.{OpenPromise, IncrementPromise, FlipPromise, AskPromise}
 use Rattle.pages.specs.declared.Window.{Window}
-use Rattle.histogram.specs.declared.State.{State}
+use Rattle.histogram.specs.Answers.{openedPaper, openedBack, opened-home, incrementPaper, incrementBack, increment-home}
+use Rattle.histogram.specs.Answers.{flipPaper, flipBack, flip-home, askPaper, askBack, ask-home}
+use Rattle.histogram.specs.Meaning.{Outcome, outcomeOf}
+use Rattle.ground.specs.Paper.{Paper}
+use Rattle.histogram.specs.Meaning.{Value}
+use Rattle.histogram.specs.Promise.{OpenPromise, IncrementPromise, FlipPromise, AskPromise}
 use Rattle.histogram.specs.declared.Opened.{Opened}
-use Rattle.histogram.specs.declared.Incremented.{Incremented}
 use Rattle.histogram.specs.declared.IncrementAnswer.{IncrementAnswer}
-use Rattle.histogram.specs.declared.Flipped.{Flipped}
 use Rattle.histogram.specs.declared.FlipAnswer.{FlipAnswer}
-use Rattle.histogram.specs.declared.Asked.{Asked}
 use Rattle.histogram.specs.declared.AskAnswer.{AskAnswer}
 
--- opening has one outcome
-pub open-one : (m : List ℕ) (r r′ : Opened) (after after′ : List ℕ) → OpenPromise m r after → OpenPromise m r′ after′ → (r ≡ r′) × (after ≡ after′)
-open-one m r r′ after after′ p q =
-    (one-answer openedPaper openedBack opened-home (p .answer) (q .answer), one-value (p .memory) (q .memory))
-
--- an increment has one outcome
-pub increment-one : (m : List ℕ) (s : State) (address : ℕ) (r r′ : Incremented) (after after′ : List ℕ)
-    → IncrementPromise m s address r after → IncrementPromise m s address r′ after′ → (r ≡ r′) × (after ≡ after′)
-increment-one m s address r r′ after after′ p q = (
-  ap₂ {C = Incremented} (λ (a : IncrementAnswer) (t : State). record { answer = a; state = t })
-      (one-answer incrementPaper incrementBack increment-home (p .answer) (q .answer)) (one-value (p .state) (q .state)),
-  one-value (p .memory) (q .memory),
+-- one outcome, whatever the call: where two are one record on paper, answer, memory and state are one
+pub outcome-one : {R : Type 0} (paper : R → Paper Value) (back : Paper Value → R) → ((r : R) → back (paper r) ≡ r)
+    → {r s : R} {m n w v : List ℕ} {o : Outcome} → outcomeOf (paper r) m w ≡ o → outcomeOf (paper s) n v ≡ o → (r ≡ s) × (m ≡ n) × (w ≡ v)
+outcome-one paper back home p q = (
+  one-answer paper back home (ap (λ (o : Outcome). o .answer) p) (ap (λ (o : Outcome). o .answer) q),
+  ap (λ (o : Outcome). o .memory) (one-value p q),
+  ap (λ (o : Outcome). o .state) (one-value p q),
 )
 
--- a flip has one outcome
-pub flip-one : (m : List ℕ) (s : State) (r r′ : Flipped) → FlipPromise m s r → FlipPromise m s r′ → r ≡ r′
-flip-one m s r r′ p q =
-    ap₂ {C = Flipped} (λ (a : FlipAnswer) (t : State). record { answer = a; state = t })
-    (one-answer flipPaper flipBack flip-home (p .answer) (q .answer)) (one-value (p .state) (q .state))
+-- opening
+pub open-one : {m w : List ℕ} {r s : Opened} {m′ n′ w′ v′ : List ℕ} → OpenPromise m w r m′ w′ → OpenPromise m w s n′ v′ → (r ≡ s) × (m′ ≡ n′) × (w′ ≡ v′)
+open-one p q = outcome-one openedPaper openedBack opened-home (p .outcome) (q .outcome)
 
--- an ask has one outcome
-pub ask-one : (m : List ℕ) (s : State) (number : ℕ) (w : Window) (r r′ : Asked) (after after′ : List ℕ)
-    → AskPromise m s number w r after → AskPromise m s number w r′ after′ → (r ≡ r′) × (after ≡ after′)
-ask-one m s number w r r′ after after′ p q = (
-  ap₂ {C = Asked} (λ (a : AskAnswer) (t : State). record { answer = a; state = t })
-      (one-answer askPaper askBack ask-home (p .answer) (q .answer)) (one-value (p .state) (q .state)),
-  one-value (p .memory) (q .memory),
-)
+-- an increment; the state is lent unchangeable
+pub increment-one : {m w : List ℕ} {a : ℕ} {r s : IncrementAnswer} {m′ n′ : List ℕ} → IncrementPromise m w a r m′ → IncrementPromise m w a s n′ → (r ≡ s) × (m′ ≡ n′)
+increment-one p q = let one = outcome-one incrementPaper incrementBack increment-home (p .outcome) (q .outcome) in (one .0, one .1)
 
--- one number for an answer
+-- a flip; the memory is lent unchangeable
+pub flip-one : {m w : List ℕ} {r s : FlipAnswer} {w′ v′ : List ℕ} → FlipPromise m w r w′ → FlipPromise m w s v′ → (r ≡ s) × (w′ ≡ v′)
+flip-one p q = let one = outcome-one flipPaper flipBack flip-home (p .outcome) (q .outcome) in (one .0, one .2)
+
+-- an ask
+pub ask-one : {m w : List ℕ} {number : ℕ} {window : Window} {r s : AskAnswer} {m′ n′ w′ v′ : List ℕ}
+    → AskPromise m w number window r m′ w′ → AskPromise m w number window s n′ v′ → (r ≡ s) × (m′ ≡ n′) × (w′ ≡ v′)
+ask-one p q = outcome-one askPaper askBack ask-home (p .outcome) (q .outcome)
+
+-- one number for opening's answer
 pub open-number-one : (answer : Opened) {m n : ℕ} → m ≡ numberOf (openedPaper answer) → n ≡ numberOf (openedPaper answer) → m ≡ n
 open-number-one answer p q = one-value p q
 
--- one number for an answer
+-- one number for an increment's answer
 pub increment-number-one : (answer : IncrementAnswer) {m n : ℕ} → m ≡ numberOf (incrementPaper answer) → n ≡ numberOf (incrementPaper answer) → m ≡ n
 increment-number-one answer p q = one-value p q
 
--- one number for an answer
+-- one number for a flip's answer
 pub flip-number-one : (answer : FlipAnswer) {m n : ℕ} → m ≡ numberOf (flipPaper answer) → n ≡ numberOf (flipPaper answer) → m ≡ n
 flip-number-one answer p q = one-value p q
 
--- one number for an answer
+-- one number for an ask's answer
 pub ask-number-one : (answer : AskAnswer) {m n : ℕ} → m ≡ numberOf (askPaper answer) → n ≡ numberOf (askPaper answer) → m ≡ n
 ask-number-one answer p q = one-value p q

@@ -1,39 +1,28 @@
--- What each public call promises of its answer, the memory at exit and the state: one record a call.
+-- What each public call promises of its answer, the memory and the state's words at exit: one equation a call.
 -- Assumes nothing.
 use mathlib.Core.Path.{_≡_}
 use mathlib.Core.List.{List}
 use Prim.Native.Nat.{ℕ}
-use Rattle.histogram.specs.Meaning.{Outcome, openMeans, openLeaves, incrementMeans, flipMeans, askMeans}
-use Rattle.histogram.specs.Answers.{openedPaper, incrementPaper, flipPaper, askPaper}
 use Rattle.pages.specs.declared.Window.{Window}
-use Rattle.histogram.specs.declared.State.{State}
+use Rattle.histogram.specs.Answers.{openedPaper, incrementPaper, flipPaper, askPaper}
+use Rattle.histogram.specs.Meaning.{askMeans, flipMeans, incrementMeans, openMeans, outcomeOf}
 use Rattle.histogram.specs.declared.Opened.{Opened}
-use Rattle.histogram.specs.declared.Incremented.{Incremented}
-use Rattle.histogram.specs.declared.Flipped.{Flipped}
-use Rattle.histogram.specs.declared.Asked.{Asked}
+use Rattle.histogram.specs.declared.IncrementAnswer.{IncrementAnswer}
+use Rattle.histogram.specs.declared.FlipAnswer.{FlipAnswer}
+use Rattle.histogram.specs.declared.AskAnswer.{AskAnswer}
 
 -- what opening promises
-pub record OpenPromise (before : List ℕ) (r : Opened) (after : List ℕ) : Type 0 where
-  pub answer : openedPaper r ≡ openMeans before
-  pub memory : after ≡ openLeaves before
+pub record OpenPromise (memory state : List ℕ) (r : Opened) (memory′ state′ : List ℕ) : Type 0 where
+  pub outcome : outcomeOf (openedPaper r) memory′ state′ ≡ openMeans memory state
 
--- what an increment promises
-pub record IncrementPromise (before : List ℕ) (s : State) (address : ℕ) (r : Incremented) (after : List ℕ) : Type 0 where
-  pub answer : incrementPaper (r .answer) ≡ incrementMeans before s address .answer
-  pub memory : after ≡ incrementMeans before s address .memory
-  pub state : r .state ≡ incrementMeans before s address .state
+-- what an increment promises; the state is lent unchangeable
+pub record IncrementPromise (memory state : List ℕ) (address : ℕ) (r : IncrementAnswer) (memory′ : List ℕ) : Type 0 where
+  pub outcome : outcomeOf (incrementPaper r) memory′ state ≡ incrementMeans memory state address
 
 -- what a flip promises; the memory is lent unchangeable
-pub record FlipPromise (before : List ℕ) (s : State) (r : Flipped) : Type 0 where
-  pub answer : flipPaper (r .answer) ≡ flipMeans before s .answer
-  pub state : r .state ≡ flipMeans before s .state
-
--- what an ask's answer, with memory and state, is on paper
-abbrev pub askedOf : Asked → List ℕ → Outcome
-askedOf r after = record { answer = askPaper (r .answer); memory = after; state = r .state }
+pub record FlipPromise (memory state : List ℕ) (r : FlipAnswer) (state′ : List ℕ) : Type 0 where
+  pub outcome : outcomeOf (flipPaper r) memory state′ ≡ flipMeans memory state
 
 -- what an ask promises
-pub record AskPromise (before : List ℕ) (s : State) (number : ℕ) (w : Window) (r : Asked) (after : List ℕ) : Type 0 where
-  pub answer : askPaper (r .answer) ≡ askMeans before s number w .answer
-  pub memory : after ≡ askMeans before s number w .memory
-  pub state : r .state ≡ askMeans before s number w .state
+pub record AskPromise (memory state : List ℕ) (number : ℕ) (window : Window) (r : AskAnswer) (memory′ state′ : List ℕ) : Type 0 where
+  pub outcome : outcomeOf (askPaper r) memory′ state′ ≡ askMeans memory state number window

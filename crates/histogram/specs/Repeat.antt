@@ -1,26 +1,22 @@
 -- Demand 3, second sentence: the last accepted ask, asked again, answers the same sum and changes nothing.
 -- Assumes nothing.
-use mathlib.Core.Bool.{Bool, true, false, not, _&&_}
-use mathlib.Core.Path.{_≡_, refl, ap, ap₂, _∙_}
+use mathlib.Core.Bool.{Bool, true, false}
+use mathlib.Core.Path.{_≡_, refl, ap, _∙_}
 use mathlib.Core.List.{List, _∷_, _++_}
 use Prim.Native.Nat.{ℕ}
 use native.Mathlib.Omega.{arith}
-use lib.Dec.{eqb}
 use lib.ListN.{length}
 use borrow.Author.Tests.{eq-eqb}
-use Rattle.ground.specs.Choice.{pick-elim}
-use Rattle.ground.specs.Paper.{Paper, accepted, refused}
-use Rattle.pages.specs.Outcomes.{take-elim}
-use Rattle.pages.specs.Meaning.{PageOutcome, sizedOf}
-use Rattle.turn.specs.Meaning.{sameFlag, sameOf, turnOf}
-use Rattle.histogram.specs.Meaning.{Outcome, taking, Value, new, again, askMeans, fittingOf, newMeans, openMeans, turnMeans}
-use Rattle.histogram.specs.Runs.{Call, ask, Ledger, NoNew, answered, opening, run, run-append, step}
+use Rattle.ground.specs.Paper.{Paper, accepted}
 use Rattle.pages.specs.declared.Window.{Window}
-use Rattle.turn.specs.declared.Kept.the-variants.{Last}
-use Rattle.histogram.specs.declared.State.{State}
-use Rattle.turn.specs.declared.Turn.{Turn}
-use Rattle.turn.specs.declared.Turn.the-variants.{NewAsk, LastAsk, OtherWindow, OutOfTurn}
-use Rattle.histogram.specs.Stays.{Stays, call-stays, run-stays}
+use Rattle.histogram.specs.Meaning.{Outcome, Value, new, again, askMeans, fittingOf, outcomeOf, refuse}
+use Rattle.histogram.specs.Outcomes.{call-elim, refused-not}
+use Rattle.histogram.specs.Runs.{Call, increment, flip, ask, Ledger, NoNew, answered, opening, run, run-append, step}
+use Rattle.histogram.specs.States.{fits-long, keep-says}
+use Rattle.histogram.specs.Stays.{call-fits, run-stays}
+use Rattle.histogram.specs.Turns.{sameFlag, sameOf, turnOf}
+use Rattle.histogram.specs.Words.{Last, keptIn}
+use Rattle.histogram.specs.declared.turn.Turn.the-variants.{NewAsk}
 
 -- a flag is the same as itself
 pub flag-same : (b : Bool) → sameFlag b b ≡ true
@@ -34,20 +30,16 @@ window-same w =
     (flag-same (w .clear))
 
 -- the ask that is kept, asked again
-pub kept-again : (m : List ℕ) (s : State) (number sum : ℕ) (w : Window) → fittingOf (length m) s ≡ true → s .kept ≡ Last number w sum
-    → askMeans m s number w ≡ record { answer = accepted (again sum); memory = m; state = s }
+pub kept-again : (m w : List ℕ) (number sum : ℕ) (v : Window) → fittingOf (length m) w ≡ true → keptIn w ≡ Last number v sum
+    → askMeans m w number v ≡ outcomeOf (accepted (again sum)) m w
 unfolding askMeans
-kept-again m s number sum w h k = rw (h, k, eq-eqb number number refl, window-same w)
+kept-again m w number sum v h k = rw (h, k, eq-eqb number number refl, window-same v)
 
--- what a new ask tells
-pub record IsNew (m : List ℕ) (s : State) (number sum : ℕ) (w : Window) (o : Outcome) : Type 0 where
-  pub fits : fittingOf (length m) s ≡ true
-  pub turn : turnOf (s .kept) number w ≡ NewAsk
-  pub kept : o .state .kept ≡ Last number w sum
-
--- a refusal is not an acceptance
-pub refused-not : {n : ℕ} {v : Value} → refused n ≡ accepted v → ⊥
-refused-not e = let z : _≡_ {A = ℕ} 0 1 = cc in omega arith
+-- what an ask answered as new tells: the memory fitted, it was its turn, and it is what is kept
+pub record IsNew (m w : List ℕ) (number sum : ℕ) (v : Window) (o : Outcome) : Type 0 where
+  pub fits : fittingOf (length m) w ≡ true
+  pub turn : turnOf (keptIn w) number v ≡ NewAsk
+  pub kept : keptIn (o .state) ≡ Last number v sum
 
 -- a sum answered again is not one answered as new
 pub again-not : {x sum : ℕ} → _≡_ {A = Paper Value} (accepted (again x)) (accepted (new sum)) → ⊥
@@ -57,54 +49,52 @@ again-not e = let z : _≡_ {A = ℕ} 0 1 = cc in omega arith
 pub new-sums : {x sum : ℕ} → _≡_ {A = Paper Value} (accepted (new x)) (accepted (new sum)) → x ≡ sum
 new-sums e = cc
 
-module _ (m : List ℕ) (s : State) (number sum : ℕ) (w : Window) (h : fittingOf (length m) s ≡ true) where
-  -- of the turns, only a new ask's answers a sum as new
-  new-turn : (t : Turn) → turnOf (s .kept) number w ≡ t → turnMeans t m s number w .answer ≡ accepted (new sum) → IsNew m s number sum w (turnMeans t m s number w)
-  unfolding newMeans
-  new-turn NewAsk f =
-      take-elim (λ (o : PageOutcome ℕ). taking s number w o .answer ≡ accepted (new sum) → IsNew m s number sum w (taking s number w o)) m (not (s .second)) w
-      (λ k e. record { fits = h; turn = f; kept = ap (λ (x : ℕ). Last number w x) (new-sums e) })
-      (λ n e. absurd (refused-not e))
-  new-turn (LastAsk x) f = λ e. absurd (again-not e)
-  new-turn OtherWindow f = λ e. absurd (refused-not e)
-  new-turn OutOfTurn f = λ e. absurd (refused-not e)
+-- what an outcome tells of an ask; nothing of another call
+abbrev pub Told : List ℕ → List ℕ → ℕ → Call → Outcome → Type 0
+Told m w sum (increment address) o = Unit {0}
+Told m w sum flip o = Unit {0}
+Told m w sum (ask number v) o = o .answer ≡ accepted (new sum) → IsNew m w number sum v o
+
+-- a refusal tells nothing
+refusal-told : (m w : List ℕ) (sum : ℕ) (c : Call) (n : ℕ) → Told m w sum c (refuse n m w)
+refusal-told m w sum (increment address) n = tt
+refusal-told m w sum flip n = tt
+refusal-told m w sum (ask number v) n = λ e. absurd (refused-not e)
 
 -- an ask that was accepted as new fitted, was its turn, and is what is kept
-pub is-new : (m : List ℕ) (s : State) (number sum : ℕ) (w : Window) → askMeans m s number w .answer ≡ accepted (new sum)
-    → IsNew m s number sum w (askMeans m s number w)
-unfolding askMeans
-is-new m s number sum w =
-    pick-elim (λ (o : Outcome). o .answer ≡ accepted (new sum) → IsNew m s number sum w o) (fittingOf (length m) s) _ _
-    (λ h. new-turn m s number sum w h (turnOf (s .kept) number w) refl)
-    (λ h e. absurd (refused-not e))
+pub is-new : (m w : List ℕ) (number sum : ℕ) (v : Window) → askMeans m w number v .answer ≡ accepted (new sum) → IsNew m w number sum v (askMeans m w number v)
+is-new m w number sum v =
+    call-elim (Told m w sum) m w (refusal-told m w sum)
+    (λ h a k. tt)
+    (λ h. tt)
+    (λ h n u k t e. record { fits = h; turn = t; kept = keep-says w n u _ (fits-long (length m) w h) .1 ∙ ap (λ (x : ℕ). Last n u x) (new-sums e) })
+    (λ h n x u e. absurd (again-not e))
+    (ask number v)
 
 -- after a new ask, and whatever calls with no new ask among them, the memory fits and the ask is kept
-pub stays-kept : (l : Ledger) (number sum : ℕ) (w : Window) (later : List Call) → answered l (ask number w) .answer ≡ accepted (new sum)
-    → NoNew (step l (ask number w)) later
-    → (fittingOf (length (run (step l (ask number w)) later .memory)) (run (step l (ask number w)) later .state) ≡ true)
-    × (run (step l (ask number w)) later .state .kept ≡ Last number w sum)
-stays-kept l number sum w later e n =
-    let i : IsNew (l .memory) (l .state) number sum w (answered l (ask number w)) = is-new (l .memory) (l .state) number sum w e in
-    let st : Stays (l .memory) (l .state) (answered l (ask number w)) = call-stays (l .memory) (l .state) (ask number w) in
-    let r = run-stays (step l (ask number w)) later n in (
-      r .0 ∙ ap₂ (λ (k words : ℕ). sizedOf k && eqb k words) (st .length-stays) (st .words) ∙ i .fits,
-      r .1 ∙ i .kept,
-    )
+pub stays-kept : (l : Ledger) (number sum : ℕ) (v : Window) (later : List Call) → answered l (ask number v) .answer ≡ accepted (new sum)
+    → NoNew (step l (ask number v)) later
+    → (fittingOf (length (run (step l (ask number v)) later .memory)) (run (step l (ask number v)) later .state) ≡ true)
+    × (keptIn (run (step l (ask number v)) later .state) ≡ Last number v sum)
+stays-kept l number sum v later e n =
+    let i : IsNew (l .memory) (l .state) number sum v (answered l (ask number v)) = is-new (l .memory) (l .state) number sum v e in
+    let r = run-stays (step l (ask number v)) later n in
+    (r .0 ∙ call-fits l (ask number v) ∙ i .fits, r .1 ∙ i .kept)
 
 -- demand 3: an ask accepted as new, and no later ask so: asked again with its number and window, whatever increments, flips and refused calls lie between,
 -- it answers the same sum as again, and leaves memory and state as they are
-pub repeat : (l : Ledger) (number sum : ℕ) (w : Window) (later : List Call) → answered l (ask number w) .answer ≡ accepted (new sum)
-    → NoNew (step l (ask number w)) later
-    → answered (run (step l (ask number w)) later) (ask number w)
-    ≡ record { answer = accepted (again sum); memory = run (step l (ask number w)) later .memory; state = run (step l (ask number w)) later .state }
-repeat l number sum w later e n =
-    let r = stays-kept l number sum w later e n in
-    kept-again (run (step l (ask number w)) later .memory) (run (step l (ask number w)) later .state) number sum w (r .0) (r .1)
+pub repeat : (l : Ledger) (number sum : ℕ) (v : Window) (later : List Call) → answered l (ask number v) .answer ≡ accepted (new sum)
+    → NoNew (step l (ask number v)) later
+    → answered (run (step l (ask number v)) later) (ask number v)
+    ≡ outcomeOf (accepted (again sum)) (run (step l (ask number v)) later .memory) (run (step l (ask number v)) later .state)
+repeat l number sum v later e n =
+    let r = stays-kept l number sum v later e n in
+    kept-again (run (step l (ask number v)) later .memory) (run (step l (ask number v)) later .state) number sum v (r .0) (r .1)
 
 -- the same over a whole sequence from freshly opened memory
-pub repeat-from-opening : (m : List ℕ) (s : State) → openMeans m ≡ accepted s → (earlier later : List Call) (number sum : ℕ) (w : Window)
-    → answered (run (opening m s) earlier) (ask number w) .answer ≡ accepted (new sum) → NoNew (step (run (opening m s) earlier) (ask number w)) later
-    → answered (run (opening m s) (earlier ++ (ask number w ∷ later))) (ask number w)
-    ≡ record { answer = accepted (again sum); memory = run (opening m s) (earlier ++ (ask number w ∷ later)) .memory; state = run (opening m s) (earlier ++ (ask number w ∷ later)) .state }
-repeat-from-opening m s o earlier later number sum w e n =
-    rw (run-append (opening m s) earlier (ask number w ∷ later)) (repeat (run (opening m s) earlier) number sum w later e n)
+pub repeat-from-opening : (m w : List ℕ) (earlier later : List Call) (number sum : ℕ) (v : Window)
+    → answered (run (opening m w) earlier) (ask number v) .answer ≡ accepted (new sum) → NoNew (step (run (opening m w) earlier) (ask number v)) later
+    → answered (run (opening m w) (earlier ++ (ask number v ∷ later))) (ask number v)
+    ≡ outcomeOf (accepted (again sum)) (run (opening m w) (earlier ++ (ask number v ∷ later)) .memory) (run (opening m w) (earlier ++ (ask number v ∷ later)) .state)
+repeat-from-opening m w earlier later number sum v e n =
+    rw (run-append (opening m w) earlier (ask number v ∷ later)) (repeat (run (opening m w) earlier) number sum v later e n)

@@ -6,9 +6,8 @@ use mathlib.Core.List.{List, [], _∷_, _++_}
 use Prim.Native.Nat.{ℕ, _+_}
 use Rattle.ground.specs.Choice.{pick}
 use Rattle.ground.specs.Paper.{Paper, accepted, refused, refusedWith}
-use Rattle.histogram.specs.Meaning.{Outcome, Value, done, new, again, incrementMeans, flipMeans, askMeans, openLeaves}
 use Rattle.pages.specs.declared.Window.{Window}
-use Rattle.histogram.specs.declared.State.{State}
+use Rattle.histogram.specs.Meaning.{Outcome, Value, done, new, again, askMeans, flipMeans, incrementMeans, openMeans}
 
 -- a call on an opened memory
 pub data Call : Type 0 where
@@ -17,10 +16,10 @@ pub data Call : Type 0 where
   ask : ℕ → Window → Call
 
 -- what a call means on a memory and a state
-abbrev pub callMeans : List ℕ → State → Call → Outcome
-callMeans m s (increment address) = incrementMeans m s address
-callMeans m s flip = flipMeans m s
-callMeans m s (ask number w) = askMeans m s number w
+abbrev pub callMeans : List ℕ → List ℕ → Call → Outcome
+callMeans m w (increment address) = incrementMeans m w address
+callMeans m w flip = flipMeans m w
+callMeans m w (ask number v) = askMeans m w number v
 
 -- what an answered call adds to the accepted increments
 abbrev pub acceptedBy : Call → Paper Value → ℕ
@@ -56,13 +55,13 @@ total (word ∷ words) = word + total words
 -- memory and state, with the counts cleared and the increments accepted since opening
 pub record Ledger : Type 0 where
   pub memory : List ℕ
-  pub state : State
+  pub state : List ℕ
   pub cleared : ℕ
   pub increments : ℕ
 
 -- a freshly opened memory: nothing cleared, nothing accepted
-abbrev pub opening : List ℕ → State → Ledger
-opening m s = record { memory = openLeaves m; state = s; cleared = 0; increments = 0 }
+abbrev pub opening : List ℕ → List ℕ → Ledger
+opening m w = record { memory = openMeans m w .memory; state = openMeans m w .state; cleared = 0; increments = 0 }
 
 -- what a call answers on a ledger's memory and state
 abbrev pub answered : Ledger → Call → Outcome

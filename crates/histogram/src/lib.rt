@@ -1,11 +1,16 @@
-// Histogram memory and numbered asks: counters in two pages of lent words, a state by value, and sums asked for by number.
+// Histogram memory and numbered asks: counters in two pages of lent words, a state in lent words, and sums asked for by number.
+mod turn;
+
 ghost use mathlib.Core.Bool.{not};
 ghost use mathlib.Core.Path.{_≡_};
+ghost use Prim.Native.Nat.{_≤_};
+ghost use lib.ListN.{length};
 ghost use Rattle.ground.specs.Paper.{numberOf};
 ghost use Rattle.pages.specs.Answers.{countPaper};
-ghost use Rattle.histogram.specs.Meaning.{countedPaper, fittingOf, exchanged, keeping, newMeans};
+ghost use Rattle.histogram.specs.Words.{flagOf, freshIn, keepIn, pageIn, stateWords};
+ghost use Rattle.histogram.specs.Meaning.{countedPaper, fittingOf, newMeans, outcomeOf};
 ghost use Rattle.histogram.specs.Answers.{openedPaper, incrementPaper, flipPaper, askPaper};
-ghost use Rattle.histogram.specs.Promise.{OpenPromise, IncrementPromise, FlipPromise, AskPromise, askedOf};
+ghost use Rattle.histogram.specs.Promise.{OpenPromise, IncrementPromise, FlipPromise, AskPromise};
 use pages::CountAnswer;
 pub use pages::FULL;
 use pages::Taken;
@@ -14,20 +19,36 @@ use pages::clear;
 use pages::count;
 use pages::sized;
 use pages::take;
-pub use turn::Kept;
 use turn::Turn;
 use turn::turn_of;
 
-// The state that goes into each call and comes back: the words of its memory (2N), whether the second page is active, and what is kept.
-pub struct State {
-    pub words: usize,
-    pub second: bool,
-    pub kept: Kept,
-}
+// How many words a state takes.
+pub const STATE_WORDS: usize = 10;
+
+// Where each stands: the memory's words (2N); whether the second page is active; whether an ask is kept; its number, its window, its sum.
+pub(crate) const WORDS: usize = 0;
+
+pub(crate) const SECOND: usize = 1;
+
+pub(crate) const KEPT: usize = 2;
+
+pub(crate) const NUMBER: usize = 3;
+
+pub(crate) const ADDRESS: usize = 4;
+
+pub(crate) const XSIZE: usize = 5;
+
+pub(crate) const YSIZE: usize = 6;
+
+pub(crate) const YSTRIDE: usize = 7;
+
+pub(crate) const CLEAR: usize = 8;
+
+pub(crate) const SUM: usize = 9;
 
 // What opening answers.
 pub enum Opened {
-    Ready(State),
+    Ready,
     WrongMemory,
 }
 
@@ -40,22 +61,10 @@ pub enum IncrementAnswer {
     AboveFull,
 }
 
-// An increment's answer, with the state.
-pub struct Incremented {
-    pub answer: IncrementAnswer,
-    pub state: State,
-}
-
 // What a flip answers.
 pub enum FlipAnswer {
     Exchanged,
     WrongMemory,
-}
-
-// A flip's answer, with the state.
-pub struct Flipped {
-    pub answer: FlipAnswer,
-    pub state: State,
 }
 
 // What an ask answers: its sum, new or again, or why not.
@@ -69,75 +78,57 @@ pub enum AskAnswer {
     OtherWindow,
 }
 
-// An ask's answer, with the state.
-pub struct Asked {
-    pub answer: AskAnswer,
-    pub state: State,
-}
-
-// Takes 2N words, sets them all to 0, and answers a state with the first page active and nothing kept.
-pub fn open(memory: &mut [u32]) -> Opened
-    ensures { λ r. ⌜ OpenPromise (now (memory .entry)) r (now (memory .exit)) ⌝ }
+// Takes 2N words, sets them all to 0, and makes the state: the first page active, nothing kept.
+pub fn open(memory: &mut [u32], state: &mut [u64]) -> Opened
+    ensures { λ r. ⌜ OpenPromise (now (memory .entry)) (now (state .entry)) r (now (memory .exit)) (now (state .exit)) ⌝ }
 {
+    if state.len() < STATE_WORDS {
+        return Opened::WrongMemory;
+    }
     let words = memory.len();
     if !sized(words) {
         return Opened::WrongMemory;
     }
     clear(memory);
-    Opened::Ready(State {
-        words,
-        second: false,
-        kept: Kept::Nothing,
-    })
+    fresh(state, words as u64);
+    Opened::Ready
 }
 
 // Adds 1 to the word at an address of the active page.
-pub fn increment(memory: &mut [u32], state: State, address: u32) -> Incremented
-    ensures { λ r. ⌜ IncrementPromise (now (memory .entry)) state address r (now (memory .exit)) ⌝ }
+pub fn increment(memory: &mut [u32], state: &[u64], address: u32) -> IncrementAnswer
+    ensures { λ r. ⌜ IncrementPromise (now (memory .entry)) (now (state .entry)) address r (now (memory .exit)) ⌝ }
 {
     if !fitting(memory.len(), state) {
-        return Incremented {
-            answer: IncrementAnswer::WrongMemory,
-            state,
-        };
+        return IncrementAnswer::WrongMemory;
     }
     let counted = count(memory, active_page(state), address);
-    Incremented {
-        answer: increment_answer(counted),
-        state,
-    }
+    increment_answer(counted)
 }
 
 // Exchanges the active page and the idle one.
-pub fn flip(memory: &[u32], state: State) -> Flipped
-    ensures { λ r. ⌜ FlipPromise (now (memory .entry)) state r ⌝ }
+pub fn flip(memory: &[u32], state: &mut [u64]) -> FlipAnswer
+    ensures { λ r. ⌜ FlipPromise (now (memory .entry)) (now (state .entry)) r (now (state .exit)) ⌝ }
 {
     if !fitting(memory.len(), state) {
-        return Flipped {
-            answer: FlipAnswer::WrongMemory,
-            state,
-        };
+        return FlipAnswer::WrongMemory;
     }
-    Flipped {
-        answer: FlipAnswer::Exchanged,
-        state: exchange(state),
-    }
+    state[SECOND] = flag(idle_page(state));
+    FlipAnswer::Exchanged
 }
 
 // Sums a window of the idle page, once for each number: the same number and window again answers the sum that was kept.
-pub fn ask(memory: &mut [u32], state: State, number: u16, window: Window) -> Asked
-    ensures { λ r. ⌜ AskPromise (now (memory .entry)) state number window r (now (memory .exit)) ⌝ }
+pub fn ask(memory: &mut [u32], state: &mut [u64], number: u16, window: Window) -> AskAnswer
+    ensures { λ r. ⌜ AskPromise (now (memory .entry)) (now (state .entry)) number window r (now (memory .exit)) (now (state .exit)) ⌝ }
 {
     if !fitting(memory.len(), state) {
-        return not_asked(AskAnswer::WrongMemory, state);
+        return AskAnswer::WrongMemory;
     }
-    let kept = state.kept;
-    let turn = turn_of(kept, number, window);
+    let turn = turn_of(state, number, window);
     match turn {
         Turn::NewAsk => new_ask(memory, state, number, window),
-        Turn::LastAsk(sum) => again(state, sum),
-        Turn::OtherWindow => not_asked(AskAnswer::OtherWindow, state),
-        Turn::OutOfTurn => not_asked(AskAnswer::OutOfTurn, state),
+        Turn::LastAsk(sum) => again(sum),
+        Turn::OtherWindow => AskAnswer::OtherWindow,
+        Turn::OutOfTurn => AskAnswer::OutOfTurn,
     }
 }
 
@@ -146,7 +137,7 @@ pub fn open_number(a: Opened) -> u8
     ensures { λ r. ⌜ r ≡ numberOf (openedPaper a) ⌝ }
 {
     match a {
-        Opened::Ready(_) => 0,
+        Opened::Ready => 0,
         Opened::WrongMemory => 13,
     }
 }
@@ -189,40 +180,47 @@ pub fn ask_number(a: AskAnswer) -> u8
     }
 }
 
-// Whether a memory of so many words is one that the state belongs to.
-fn fitting(words: usize, state: State) -> bool
-    ensures { λ r. ⌜ r ≡ fittingOf words state ⌝ }
+// Makes the state of an opened memory of so many words: the first page active, nothing kept.
+fn fresh(state: &mut [u64], words: u64)
+    requires { ⌜ stateWords ≤ length (now state) ⌝ }
+    ensures { λ _. ⌜ now (state .exit) ≡ freshIn (now (state .entry)) words ⌝ }
 {
+    let mut i = 0;
+    while i < STATE_WORDS {
+        state[i] = 0;
+        i += 1;
+    }
+    state[WORDS] = words;
+}
+
+// Whether a memory of so many words is one that the state belongs to.
+fn fitting(words: usize, state: &[u64]) -> bool
+    ensures { λ r. ⌜ r ≡ fittingOf words (now (state .entry)) ⌝ }
+{
+    if state.len() < STATE_WORDS {
+        return false;
+    }
     if !sized(words) {
         return false;
     }
-    words == state.words
+    words as u64 == state[WORDS]
 }
 
 // The active page: whether it is the second.
-fn active_page(state: State) -> bool
-    ensures { λ r. ⌜ r ≡ state .second ⌝ }
+fn active_page(state: &[u64]) -> bool
+    requires { ⌜ stateWords ≤ length (now state) ⌝ }
+    ensures { λ r. ⌜ r ≡ pageIn (now (state .entry)) ⌝ }
 {
-    state.second
+    state[SECOND] != 0
 }
 
 // The idle page: whether it is the second.
-fn idle_page(state: State) -> bool
-    ensures { λ r. ⌜ r ≡ not (state .second) ⌝ }
+fn idle_page(state: &[u64]) -> bool
+    requires { ⌜ stateWords ≤ length (now state) ⌝ }
+    ensures { λ r. ⌜ r ≡ not (pageIn (now (state .entry))) ⌝ }
 {
-    !state.second
-}
-
-// The state with active and idle exchanged.
-fn exchange(state: State) -> State
-    ensures { λ r. ⌜ r ≡ exchanged state ⌝ }
-{
-    let kept = state.kept;
-    State {
-        words: state.words,
-        second: !state.second,
-        kept,
-    }
+    let second = state[SECOND] != 0;
+    !second
 }
 
 // An increment's answer to what counting answered.
@@ -238,48 +236,44 @@ fn increment_answer(counted: CountAnswer) -> IncrementAnswer
 }
 
 // A new ask: refused, or its window taken and its sum kept.
-fn new_ask(memory: &mut [u32], state: State, number: u16, window: Window) -> Asked
-    ensures { λ r. ⌜ askedOf r (now (memory .exit)) ≡ newMeans (now (memory .entry)) state number window ⌝ }
+fn new_ask(memory: &mut [u32], state: &mut [u64], number: u16, window: Window) -> AskAnswer
+    requires { ⌜ stateWords ≤ length (now state) ⌝ }
+    ensures { λ r. ⌜ outcomeOf (askPaper r) (now (memory .exit)) (now (state .exit)) ≡ newMeans (now (memory .entry)) (now (state .entry)) number window ⌝ }
 {
     let taken = take(memory, idle_page(state), window);
     match taken {
-        Taken::Sum(sum) => new_sum(state, number, window, sum),
-        Taken::WrongCell => not_asked(AskAnswer::WrongCell, state),
-        Taken::AboveFull => not_asked(AskAnswer::AboveFull, state),
+        Taken::Sum(sum) => keep(state, number, window, sum),
+        Taken::WrongCell => AskAnswer::WrongCell,
+        Taken::AboveFull => AskAnswer::AboveFull,
     }
 }
 
 // The sum of a new ask, answered and kept.
-fn new_sum(state: State, number: u16, window: Window, sum: u64) -> Asked
-    ensures { λ r. ⌜ (r .answer ≡ AskAnswer.New sum) × (r .state ≡ keeping state number window sum) ⌝ }
+fn keep(state: &mut [u64], number: u16, window: Window, sum: u64) -> AskAnswer
+    requires { ⌜ stateWords ≤ length (now state) ⌝ }
+    ensures { λ r. ⌜ (r ≡ AskAnswer.New sum) × (now (state .exit) ≡ keepIn (now (state .entry)) number window sum) ⌝ }
 {
-    Asked {
-        answer: AskAnswer::New { sum },
-        state: State {
-            words: state.words,
-            second: state.second,
-            kept: Kept::Last {
-                number,
-                window,
-                sum,
-            },
-        },
-    }
+    state[KEPT] = 1;
+    state[NUMBER] = number as u64;
+    state[ADDRESS] = window.address as u64;
+    state[XSIZE] = window.xsize as u64;
+    state[YSIZE] = window.ysize as u64;
+    state[YSTRIDE] = window.ystride as u64;
+    state[CLEAR] = flag(window.clear);
+    state[SUM] = sum;
+    AskAnswer::New { sum }
 }
 
-// A refused ask; the state stays.
-fn not_asked(answer: AskAnswer, state: State) -> Asked
-    ensures { λ r. ⌜ r ≡ record { answer = answer; state = state } ⌝ }
+// A flag's word.
+fn flag(b: bool) -> u64
+    ensures { λ r. ⌜ r ≡ flagOf b ⌝ }
 {
-    Asked { answer, state }
+    if b { 1 } else { 0 }
 }
 
-// The kept sum answered again; the state stays.
-fn again(state: State, sum: u64) -> Asked
-    ensures { λ r. ⌜ r ≡ record { answer = AskAnswer.Again sum; state = state } ⌝ }
+// The kept sum answered again.
+fn again(sum: u64) -> AskAnswer
+    ensures { λ r. ⌜ r ≡ AskAnswer.Again sum ⌝ }
 {
-    Asked {
-        answer: AskAnswer::Again { sum },
-        state,
-    }
+    AskAnswer::Again { sum }
 }

@@ -1,18 +1,31 @@
--- `histogram::fitting` meets its contract. A callee's flag and one test decide `fittingOf`.
+-- `histogram::fitting` meets its contract: the three tests of 13.
 -- Assumes nothing.
 use borrow.Author.Needs.{needs}
-use Rattle.pages.proofs.Tested.{tests, refused, passed}
+use Rattle.pages.proofs.Tested.{refused, passed}
+use Rattle.histogram.proofs.Calls.{fits-short, fits-odd, fits-last}
 use Rattle.histogram.proofs.fitting.Statement.{statement}
 use Rattle.histogram.proofs.fitting.Tie as tie
+
+returns : tie.Need-returns
+returns c = let a = c .before .before .args in fits-short (a .words) (a .state .now) (c .if1 .taken)
 
 sized-requires : tie.Need-sized-requires
 sized-requires c κs = search needs
 
-returns : tie.Need-returns
-returns c = search (refused (c .before .sized .ensures .answer) (c .if1 .taken))
-
 returns-2 : tie.Need-returns-2
-returns-2 c = search (tests, passed (c .before .before .sized .ensures .answer) (c .before .if1 .left))
+returns-2 c =
+    let a = c .before .before .before .before .args in
+    fits-odd (a .words) (a .state .now) (c .before .before .if1 .left) (refused (c .before .sized .ensures .answer) (c .if2 .taken))
+
+shared-slice-read-result : tie.Need-shared-slice-read-result
+shared-slice-read-result c = search needs
+
+returns-3 : tie.Need-returns-3
+returns-3 c =
+    let d = c .before .before .before in
+    let a = d .before .before .args in
+    fits-last (a .words) (a .state .now) (d .if1 .left) (passed (c .before .before .sized .ensures .answer) (c .before .if2 .left))
 
 pub fitting-spec : {M : Type 1} → statement M
-fitting-spec = tie.close (tie.spec sized-requires returns returns-2)
+fitting-spec =
+    tie.close (tie.spec returns sized-requires returns-2 shared-slice-read-result returns-3)

@@ -1,22 +1,56 @@
--- `histogram::flip` meets its contract. Each return is one of the flip's two outcomes.
+-- `histogram::flip` meets its contract: refused by 13, or the one word written.
 -- Assumes nothing.
+use native.Mathlib.Omega.{arith}
+use lib.ListN.{length}
 use borrow.Author.Needs.{needs}
-use Rattle.histogram.proofs.Flipping.{flips13, flips}
 use Rattle.pages.proofs.Tested.{refused, passed}
+use Rattle.histogram.proofs.Calls.{flips13, flips}
+use Rattle.histogram.specs.States.{fits-long}
 use Rattle.histogram.proofs.flip.Statement.{statement}
 use Rattle.histogram.proofs.flip.Tie as tie
 
 fitting-requires : tie.Need-fitting-requires
 fitting-requires c κs = search needs
 
-returns : tie.Need-returns
-returns c = flips13 _ _ (refused (c .before .fitting .ensures) (c .if1 .taken))
+same-length : tie.Need-same-length
+same-length c = search needs
 
-exchange-requires : tie.Need-exchange-requires
-exchange-requires c κs = search needs
+returns : tie.Need-returns
+returns c = record { outcome = flips13 _ _ (refused (c .before .fitting .ensures) (c .if1 .taken)) }
+
+idle-page-requires : tie.Need-idle-page-requires
+idle-page-requires c κs =
+    let a = c .before .before .before .before .before .before .args in
+    fits-long (length (a .memory .now)) (a .state .now) (passed (c .before .before .fitting .ensures) (c .before .if1 .left))
+
+flag-requires : tie.Need-flag-requires
+flag-requires c κs = search needs
+
+slice-write-state : tie.Need-slice-write-state
+slice-write-state c =
+    let d = c .before .before .before in
+    let a = d .before .before .before .before .before .args in
+    omega (arith, fits-long (length (a .memory .now)) (a .state .now) (passed (d .before .fitting .ensures) (d .if1 .left)))
+
+same-length-2 : tie.Need-same-length-2
+same-length-2 c = search needs
 
 returns-2 : tie.Need-returns-2
-returns-2 c = flips _ _ (passed (c .before .before .fitting .ensures) (c .before .if1 .left)) _ (c .exchange .ensures)
+returns-2 c =
+    let d = c .before .before .before in
+    let a = d .before .before .before .before .before .args in
+    let fits = passed (d .before .fitting .ensures) (d .if1 .left) in
+    record { outcome = flips (a .memory .now) (a .state .now) fits (c .before .idle-page .ensures) (c .flag .ensures) }
 
 pub flip-spec : {M : Type 1} → statement M
-flip-spec = tie.close (tie.spec fitting-requires returns exchange-requires returns-2)
+flip-spec =
+    tie.close
+    (tie.spec
+    fitting-requires
+    same-length
+    returns
+    idle-page-requires
+    flag-requires
+    slice-write-state
+    same-length-2
+    returns-2)

@@ -1,8 +1,10 @@
--- `histogram::increment` meets its contract. Where the memory fits, it is what counting on the active page does.
+-- `histogram::increment` meets its contract: refused by 13, or what counting on the active page did.
 -- Assumes nothing.
+use lib.ListN.{length}
 use borrow.Author.Needs.{needs}
-use Rattle.histogram.proofs.Counting.{by13, counted}
 use Rattle.pages.proofs.Tested.{refused, passed}
+use Rattle.histogram.proofs.Calls.{increments13, counted}
+use Rattle.histogram.specs.States.{fits-long}
 use Rattle.histogram.proofs.increment.Statement.{statement}
 use Rattle.histogram.proofs.increment.Tie as tie
 
@@ -10,11 +12,12 @@ fitting-requires : tie.Need-fitting-requires
 fitting-requires c κs = search needs
 
 returns : tie.Need-returns
-returns c =
-    let a = c .before .before .before .args in by13 (a .memory .now) (a .state) (a .address) (refused (c .before .fitting .ensures) (c .if1 .taken))
+returns c = record { outcome = increments13 _ _ _ (refused (c .before .fitting .ensures) (c .if1 .taken)) }
 
 active-page-requires : tie.Need-active-page-requires
-active-page-requires c κs = search needs
+active-page-requires c κs =
+    let a = c .before .before .before .before .before .args in
+    fits-long (length (a .memory .now)) (a .state .now) (passed (c .before .before .fitting .ensures) (c .before .if1 .left))
 
 count-requires : tie.Need-count-requires
 count-requires c κs = search needs
@@ -27,10 +30,13 @@ same-length c = search needs
 
 returns-2 : tie.Need-returns-2
 returns-2 c =
-    let a = c .before .before .before .before .before .before .before .before .before .args in
-    counted (a .memory .now) (a .state) (a .address)
-    (passed (c .before .before .before .before .before .before .before .fitting .ensures) (c .before .before .before .before .before .before .if1 .left))
-    (c .before .before .before .before .active-page .ensures) (c .before .before .before .count .ensures) _ (c .increment-answer .ensures)
+    let d = c .before .before .before in
+    let e = d .before .before .before in
+    let fits = passed (e .before .fitting .ensures) (e .if1 .left) in
+    let a = e .before .before .before .before .args in
+    let page = d .before .active-page in
+    let said = c .increment-answer in
+    record { outcome = counted (a .memory .now) (a .state .now) (a .address) fits (page .ensures) (d .count .ensures) (said .result) (said .ensures) }
 
 pub increment-spec : {M : Type 1} → statement M
 increment-spec =

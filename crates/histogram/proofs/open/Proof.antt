@@ -1,27 +1,41 @@
--- `histogram::open` meets its contract. Each return is one of opening's two outcomes.
+-- `histogram::open` meets its contract: refused by 13, or memory and state as a fresh one's.
 -- Assumes nothing.
 use borrow.Author.Needs.{needs}
-use Rattle.histogram.proofs.Opening.{opened13, opened}
 use Rattle.pages.proofs.Tested.{refused, passed}
+use Rattle.histogram.proofs.Calls.{open-short, open-odd, opened}
 use Rattle.histogram.proofs.open.Statement.{statement}
 use Rattle.histogram.proofs.open.Tie as tie
+
+returns : tie.Need-returns
+returns c = record { outcome = open-short _ _ (c .if1 .taken) }
 
 sized-requires : tie.Need-sized-requires
 sized-requires c κs = search needs
 
-returns : tie.Need-returns
-returns c = opened13 _ (refused (c .before .sized .ensures .answer) (c .if1 .taken))
+returns-2 : tie.Need-returns-2
+returns-2 c = record { outcome = open-odd _ _ (c .before .before .if1 .left) (refused (c .before .sized .ensures .answer) (c .if2 .taken)) }
 
 clear-requires : tie.Need-clear-requires
 clear-requires c κs = search needs
 
+fresh-requires : tie.Need-fresh-requires
+fresh-requires c κs = search needs
+
 same-length : tie.Need-same-length
 same-length c = search needs
 
-returns-2 : tie.Need-returns-2
-returns-2 c =
-    opened _ _ (passed (c .before .before .before .before .before .sized .ensures .answer) (c .before .before .before .before .if1 .left))
-    (c .before .before .clear .ensures .memory)
+same-length-2 : tie.Need-same-length-2
+same-length-2 c = search needs
+
+returns-3 : tie.Need-returns-3
+returns-3 c =
+    let f = c .before .before in
+    let k = f .before .before .before .before in
+    let d = k .before .before in
+    let taken = passed (d .before .sized .ensures .answer) (d .if2 .left) in
+    record { outcome = opened _ _ (d .before .before .if1 .left) taken (k .clear .ensures .memory) (f .fresh .ensures) }
 
 pub open-spec : {M : Type 1} → statement M
-open-spec = tie.close (tie.spec sized-requires returns clear-requires same-length returns-2)
+open-spec =
+    tie.close
+    (tie.spec returns sized-requires returns-2 clear-requires fresh-requires same-length same-length-2 returns-3)

@@ -6,17 +6,20 @@ use lib.ListN.{length-take}
 use Rattle.cases.proofs.histograms.lend_last.Statement.{statement}
 use Rattle.cases.proofs.histograms.lend_last.Tie as tie
 
-slice-relend-prefix-open-last : tie.Need-slice-relend-prefix-open-last
-slice-relend-prefix-open-last c = search needs
+slice-relend-prefix-last-counter : tie.Need-slice-relend-prefix-last-counter
+slice-relend-prefix-last-counter c = search needs
 
-slice-aggregate-open-last : tie.Need-slice-aggregate-open-last
-slice-aggregate-open-last c = simp length-take (omega arith)
+slice-aggregate-last-counter : tie.Need-slice-aggregate-last-counter
+slice-aggregate-last-counter c = simp length-take (omega arith)
 
-open-last-requires : tie.Need-open-last-requires
-open-last-requires c κs = search needs
+last-counter-requires : tie.Need-last-counter-requires
+last-counter-requires c κs = search needs
 
 same-length : tie.Need-same-length
 same-length c = search needs
+
+same-length-2 : tie.Need-same-length-2
+same-length-2 c = search needs
 
 returns : tie.Need-returns
 returns c = search needs
@@ -28,9 +31,10 @@ pub lend-last-spec : {M : Type 1} → statement M
 lend-last-spec =
     tie.close
     (tie.spec
-    slice-relend-prefix-open-last
-    slice-aggregate-open-last
-    open-last-requires
+    slice-relend-prefix-last-counter
+    slice-aggregate-last-counter
+    last-counter-requires
     same-length
+    same-length-2
     returns
     returns-2)

@@ -6,17 +6,20 @@ use lib.ListN.{length-take}
 use Rattle.cases.proofs.histograms.lend_three.Statement.{statement}
 use Rattle.cases.proofs.histograms.lend_three.Tie as tie
 
-slice-relend-prefix-open-three : tie.Need-slice-relend-prefix-open-three
-slice-relend-prefix-open-three c = search needs
+slice-relend-prefix-three : tie.Need-slice-relend-prefix-three
+slice-relend-prefix-three c = search needs
 
-slice-aggregate-open-three : tie.Need-slice-aggregate-open-three
-slice-aggregate-open-three c = simp length-take (omega arith)
+slice-aggregate-three : tie.Need-slice-aggregate-three
+slice-aggregate-three c = simp length-take (omega arith)
 
-open-three-requires : tie.Need-open-three-requires
-open-three-requires c κs = search needs
+three-requires : tie.Need-three-requires
+three-requires c κs = search needs
 
 same-length : tie.Need-same-length
 same-length c = search needs
+
+same-length-2 : tie.Need-same-length-2
+same-length-2 c = search needs
 
 returns : tie.Need-returns
 returns c = search needs
@@ -28,9 +31,10 @@ pub lend-three-spec : {M : Type 1} → statement M
 lend-three-spec =
     tie.close
     (tie.spec
-    slice-relend-prefix-open-three
-    slice-aggregate-open-three
-    open-three-requires
+    slice-relend-prefix-three
+    slice-aggregate-three
+    three-requires
     same-length
+    same-length-2
     returns
     returns-2)

@@ -1,0 +1,59 @@
+-- `turn_after` meets its contract: the last number with its window or another, the next number, or any other.
+-- Assumes nothing.
+use borrow.Author.Needs.{needs}
+use Rattle.histogram.proofs.Turning.{turn-last, turn-other, turn-new, turn-out}
+use Rattle.histogram.proofs.turn.turn_after.Statement.{statement}
+use Rattle.histogram.proofs.turn.turn_after.Tie as tie
+
+shared-slice-read-if1 : tie.Need-shared-slice-read-if1
+shared-slice-read-if1 c = search needs
+
+same-window-requires : tie.Need-same-window-requires
+same-window-requires c κs = search needs
+
+shared-slice-read-t12 : tie.Need-shared-slice-read-t12
+shared-slice-read-t12 c = search needs
+
+shared-slice-read-follows : tie.Need-shared-slice-read-follows
+shared-slice-read-follows c = search needs
+
+follows-requires : tie.Need-follows-requires
+follows-requires c κs = search needs
+
+returns : tie.Need-returns
+returns c =
+    let d = c .before .before .before in
+    let a = d .before .before .before .args in
+    turn-last (a .state .now) (a .number) (a .window) (d .if1 .taken) (c .before .before .same-window .ensures) (c .before .if2 .taken)
+
+returns-2 : tie.Need-returns-2
+returns-2 c =
+    let d = c .before .before in
+    let a = d .before .before .before .args in
+    turn-other (a .state .now) (a .number) (a .window) (d .if1 .taken) (c .before .same-window .ensures) (c .if2 .left)
+
+returns-3 : tie.Need-returns-3
+returns-3 c =
+    let d = c .before .before .before in
+    let a = d .before .before .before .args in
+    turn-new (a .state .now) (a .number) (a .window) (d .if1 .left) (c .before .follows .ensures) (c .if3 .taken)
+
+returns-4 : tie.Need-returns-4
+returns-4 c =
+    let d = c .before .before .before in
+    let a = d .before .before .before .args in
+    turn-out (a .state .now) (a .number) (a .window) (d .if1 .left) (c .before .follows .ensures) (c .if3 .left)
+
+pub turn-after-spec : {M : Type 1} → statement M
+turn-after-spec =
+    tie.close
+    (tie.spec
+    shared-slice-read-if1
+    same-window-requires
+    shared-slice-read-t12
+    shared-slice-read-follows
+    follows-requires
+    returns
+    returns-2
+    returns-3
+    returns-4)

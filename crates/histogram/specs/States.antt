@@ -1,0 +1,96 @@
+-- Laws of a state's words: what they say after a call wrote into them, which words no call changes, and which it looks at.
+-- Assumes nothing.
+use mathlib.Core.Bool.{Bool, true, false, not, _&&_}
+use mathlib.Core.Path.{_≡_, refl, ap₂}
+use mathlib.Core.List.{List, [], _∷_, _++_}
+use Prim.Native.Nat.{ℕ, _≤_}
+use native.Mathlib.Omega.{arith}
+use borrow.Author.Tests.{eq-eqb, le-leb, leb-true}
+use lib.Dec.{eqb, leb}
+use lib.ListN.{drop, getD, length, replicate}
+use Rattle.ground.specs.Choice.{pick}
+use Rattle.ground.specs.Questions.{both-hold}
+use Rattle.pages.specs.Meaning.{PageOutcome, countMeans, sizedOf}
+use Rattle.pages.specs.declared.Window.{Window}
+use Rattle.histogram.specs.Words.{Kept, Last, Nothing, flagIn, flagOf, flipIn, freshIn, keepIn, keptIn, pageIn, stateWords}
+use Rattle.histogram.specs.Meaning.{counting, fittingOf, incrementMeans, flipMeans, refuse, roomy}
+
+-- what holds of ten words and any rest holds of ten words or more
+pub ten : (P : List ℕ → Type 0) → ((a b c d e f g h i j : ℕ) (l : List ℕ) → P (a ∷ b ∷ c ∷ d ∷ e ∷ f ∷ g ∷ h ∷ i ∷ j ∷ l))
+    → (l : List ℕ) → 10 ≤ length l → P l
+ten P p [] n = absurd (omega arith)
+ten P p (a ∷ []) n = absurd (omega arith)
+ten P p (a ∷ b ∷ []) n = absurd (omega arith)
+ten P p (a ∷ b ∷ c ∷ []) n = absurd (omega arith)
+ten P p (a ∷ b ∷ c ∷ d ∷ []) n = absurd (omega arith)
+ten P p (a ∷ b ∷ c ∷ d ∷ e ∷ []) n = absurd (omega arith)
+ten P p (a ∷ b ∷ c ∷ d ∷ e ∷ f ∷ []) n = absurd (omega arith)
+ten P p (a ∷ b ∷ c ∷ d ∷ e ∷ f ∷ g ∷ []) n = absurd (omega arith)
+ten P p (a ∷ b ∷ c ∷ d ∷ e ∷ f ∷ g ∷ h ∷ []) n = absurd (omega arith)
+ten P p (a ∷ b ∷ c ∷ d ∷ e ∷ f ∷ g ∷ h ∷ i ∷ []) n = absurd (omega arith)
+ten P p (a ∷ b ∷ c ∷ d ∷ e ∷ f ∷ g ∷ h ∷ i ∷ j ∷ l) n = p a b c d e f g h i j l
+
+-- where a memory fits, a state's words were lent
+pub fits-long : (n : ℕ) (w : List ℕ) → fittingOf n w ≡ true → stateWords ≤ length w
+fits-long n w h = leb-true stateWords (length w) (both-hold {a = roomy w} h .0)
+
+-- a flag's word says the flag
+pub flag-home : (b : Bool) → flagIn (flagOf b) ≡ b
+flag-home true = refl
+flag-home false = refl
+
+-- what words say: which page is active, and what is kept
+abbrev pub Says : List ℕ → Bool → Kept → Type 0
+Says w page kept = (pageIn w ≡ page) × (keptIn w ≡ kept)
+
+-- opened: the first page is active and nothing is kept
+pub fresh-says : (w : List ℕ) (n : ℕ) → Says (freshIn w n) false Nothing
+fresh-says w n = (refl, refl)
+
+-- flipped: the other page is active, and what is kept stays
+pub flip-says : (w : List ℕ) → stateWords ≤ length w → Says (flipIn w) (not (pageIn w)) (keptIn w)
+flip-says w = ten (λ l. Says (flipIn l) (not (pageIn l)) (keptIn l)) (λ a b c d e f g h i j l. (flag-home (not (flagIn b)), refl)) w
+
+-- a new ask: the page stays, and the ask is kept
+pub keep-says : (w : List ℕ) (n : ℕ) (v : Window) (sum : ℕ) → stateWords ≤ length w → Says (keepIn w n v sum) (pageIn w) (Last n v sum)
+keep-says w n v sum =
+    ten (λ l. Says (keepIn l n v sum) (pageIn l) (Last n v sum)) (λ a b c d e f g h i j l. (refl, rw (flag-home (v .clear)))) w
+
+-- an opened memory fits its state
+pub fresh-fits : (w : List ℕ) (n : ℕ) → sizedOf n ≡ true → fittingOf n (freshIn w n) ≡ true
+fresh-fits w n h = rw (le-leb stateWords (length (freshIn w n)) (omega arith), h, eq-eqb n n refl)
+
+-- no call changes how many words are lent, 2N, or a word past the state's
+pub record Framed (w v : List ℕ) : Type 0 where
+  pub long : length v ≡ length w
+  pub size : getD v 0 0 ≡ getD w 0 0
+  pub rest : drop stateWords v ≡ drop stateWords w
+
+-- the same words
+pub framed-same : (w : List ℕ) → Framed w w
+framed-same w = record { long = refl; size = refl; rest = refl }
+
+-- a flip
+pub flip-framed : (w : List ℕ) → stateWords ≤ length w → Framed w (flipIn w)
+flip-framed w = ten (λ l. Framed l (flipIn l)) (λ a b c d e f g h i j l. record { long = refl; size = refl; rest = refl }) w
+
+-- a new ask
+pub keep-framed : (w : List ℕ) (n : ℕ) (v : Window) (sum : ℕ) → stateWords ≤ length w → Framed w (keepIn w n v sum)
+keep-framed w n v sum = ten (λ l. Framed l (keepIn l n v sum)) (λ a b c d e f g h i j l. record { long = refl; size = refl; rest = refl }) w
+
+-- so that a memory fits after a call where it did before
+pub framed-fits : {w v : List ℕ} → Framed w v → (n : ℕ) → fittingOf n v ≡ fittingOf n w
+framed-fits f n = ap₂ (λ (k words : ℕ). leb stateWords k && (sizedOf n && eqb n words)) (f .long) (f .size)
+
+module _ (m w v : List ℕ) (e : fittingOf (length m) w ≡ fittingOf (length m) v) where
+  -- an increment looks at 2N and the active page alone
+  pub increment-reads : pageIn w ≡ pageIn v → (a : ℕ) → (incrementMeans m w a .answer ≡ incrementMeans m v a .answer)
+      × (incrementMeans m w a .memory ≡ incrementMeans m v a .memory)
+  unfolding incrementMeans
+  increment-reads f a = rw (e, f) (either (fittingOf (length m) v) (countMeans m (pageIn v) a))
+    where
+      either : (b : Bool) (o : PageOutcome (Unit {0}))
+          → (pick b (counting w o) (refuse 13 m w) .answer ≡ pick b (counting v o) (refuse 13 m v) .answer)
+          × (pick b (counting w o) (refuse 13 m w) .memory ≡ pick b (counting v o) (refuse 13 m v) .memory)
+      either true o = (refl, refl)
+      either false o = (refl, refl)

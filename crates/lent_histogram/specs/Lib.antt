@@ -1,5 +1,0 @@
-pub mod Meaning
-pub mod Promise
-pub mod OneOutcome
-pub mod Stays
-pub mod Session

@@ -1,3 +1,0 @@
-mod Restoring
-mod Storing
-mod Tested

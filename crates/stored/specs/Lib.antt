@@ -1,6 +1,0 @@
-pub mod Meaning
-pub mod Ranges
-pub mod Answers
-pub mod Promise
-pub mod OneOutcome
-pub mod Forms
