@@ -1,4 +1,4 @@
-//! Document 01, "Histogram memory": increments, flips and numbered asks, and the ledger of a soak run.
+//! Document 01, "Histogram memory": increments, flips and numbered asks.
 
 use crate::random::Random;
 
@@ -107,131 +107,12 @@ pub fn ask(memory: &mut [u32], state: &mut State, number: u16, window: Window) -
     Ok(Asked::New(sum))
 }
 
-/// One call of a script.
+/// One call.
 enum Call {
-    Open(usize),
+    Open,
     Increment(u32),
     Flip,
     Ask(u16, Window),
-}
-
-/// Scripts for the program `soak`: small and middle memories, busy with asks that are new, repeated, out of turn, with another
-/// window, too far.
-fn calls(random: &mut Random) -> Vec<Call> {
-    let mut all = Vec::new();
-    for words in [4, 2, 3, 0, 16, 64, 200, 1] {
-        all.push(Call::Open(words));
-        let n = (words / 2).max(1) as u64;
-        let mut next: u16 = 1;
-        let mut window = Window { address: 0, xsize: 1, ysize: 0, ystride: 0, clear: true };
-        let count = if words < 2 { 3 } else { 400 };
-        for _ in 0..count {
-            match random.below(20) {
-                0..=12 => all.push(Call::Increment(random.below(n + n / 8 + 1) as u32)),
-                13 | 14 => all.push(Call::Flip),
-                15 | 16 => {
-                    let small = |random: &mut Random, most: u64| random.below(most.min(255) + 1);
-                    window = Window {
-                        address: random.below(n) as u32,
-                        xsize: small(random, n / 3) as u8,
-                        ysize: small(random, 3) as u8,
-                        ystride: small(random, n / 4) as u16,
-                        clear: random.below(3) > 0,
-                    };
-                    all.push(Call::Ask(next, window));
-                    let last = *cells(&window).last().unwrap();
-                    if last < n {
-                        next = next.wrapping_add(1);
-                    }
-                }
-                17 => all.push(Call::Ask(next.wrapping_sub(1), window)),
-                18 => all.push(Call::Ask(next.wrapping_sub(1), Window { ystride: window.ystride + 1, ..window })),
-                _ => all.push(Call::Ask(next.wrapping_add(random.below(5) as u16), window)),
-            }
-        }
-    }
-    all
-}
-
-/// A script being played: what `soak` reads, what it must print, and the ledger of the memory that is open.
-#[derive(Default)]
-struct Play {
-    input: String,
-    output: String,
-    memory: Vec<u32>,
-    state: Option<State>,
-    cleared: u64,
-    accepted: u64,
-}
-
-impl Play {
-    /// What a call is answered: its values, or the refusal.
-    fn says(&mut self, call: &str, answer: Result<String, u8>) {
-        let answer = answer.unwrap_or_else(|number| format!("refused {number}"));
-        self.output.push_str(&format!("{call} {answer}\n"));
-    }
-
-    /// The ledger of the memory that is open.
-    fn close(&mut self) {
-        if self.state.is_some() {
-            let held: u64 = self.memory.iter().map(|&word| word as u64).sum();
-            assert_eq!(held + self.cleared, self.accepted);
-            self.output.push_str(&format!("held {held} cleared {} accepted {}\n", self.cleared, self.accepted));
-        }
-    }
-
-    fn open(&mut self, words: usize) {
-        self.close();
-        self.input.push_str(&format!("o {words}\n"));
-        (self.cleared, self.accepted, self.memory) = (0, 0, vec![7; words]);
-        let answer = open(&mut self.memory);
-        self.state = answer.as_ref().ok().copied();
-        self.says(&format!("open {words}"), answer.map(|_| "accepted".into()));
-    }
-
-    fn increment(&mut self, address: u32) {
-        self.input.push_str(&format!("i {address}\n"));
-        let Some(state) = &self.state else { return };
-        let answer = increment(&mut self.memory, state, address);
-        self.accepted += answer.is_ok() as u64;
-        self.says(&format!("increment {address}"), answer.map(|()| "accepted".into()));
-    }
-
-    fn flip(&mut self) {
-        self.input.push_str("f\n");
-        let Some(state) = &mut self.state else { return };
-        let answer = flip(&self.memory, state);
-        self.says("flip", answer.map(|()| "accepted".into()));
-    }
-
-    fn ask(&mut self, number: u16, w: Window) {
-        let clear = w.clear as u8;
-        self.input.push_str(&format!("a {number} {} {} {} {} {clear}\n", w.address, w.xsize, w.ysize, w.ystride));
-        let Some(state) = &mut self.state else { return };
-        let answer = ask(&mut self.memory, state, number, w).map(|asked| match asked {
-            Asked::New(sum) => {
-                self.cleared += if w.clear { sum } else { 0 };
-                format!("new {sum}")
-            }
-            Asked::Again(sum) => format!("again {sum}"),
-        });
-        self.says(&format!("ask {number}"), answer);
-    }
-}
-
-/// The script as the program `soak` reads it, and what it must print.
-pub fn script() -> (String, String) {
-    let mut play = Play::default();
-    for call in calls(&mut Random::new(3)) {
-        match call {
-            Call::Open(words) => play.open(words),
-            Call::Increment(address) => play.increment(address),
-            Call::Flip => play.flip(),
-            Call::Ask(number, window) => play.ask(number, window),
-        }
-    }
-    play.close();
-    (play.input, play.output)
 }
 
 /// Numbers of a block, one after the other.
@@ -325,7 +206,7 @@ fn block(words: u32, pokes: &[(u32, u32)], state: &State, call: &Call) -> Vec<u8
     put_window(&mut block, &window);
     block.extend(sum.to_be_bytes());
     match call {
-        Call::Open(_) => block.push(b'o'),
+        Call::Open => block.push(b'o'),
         Call::Increment(address) => {
             block.push(b'i');
             block.extend(address.to_be_bytes());
@@ -354,7 +235,7 @@ fn near(random: &mut Random, n: u64) -> Window {
 /// A call on a page of n words: an ask, more often than not, with the number last, next or another.
 fn some_call(random: &mut Random, n: u64, last: u16, kept: Window) -> Call {
     match random.below(8) {
-        0 => Call::Open(0),
+        0 => Call::Open,
         1 | 2 => Call::Increment(random.below(n + 2) as u32),
         3 => Call::Flip,
         _ => {

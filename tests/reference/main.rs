@@ -4,8 +4,6 @@
 //!   reference feed           the blocks that the program `vectors` is given
 //!   reference answers        reads such blocks, and prints the line that answers each
 //!   reference checksum       reads bytes, and prints their checksum
-//!   reference script         the script of calls that the program `soak` plays
-//!   reference ledger         what `soak` must print
 //!   reference lines          a hard input for the program `codes`
 //!   reference codes          reads such an input, and prints what `codes` must print
 
@@ -79,8 +77,6 @@ fn main() {
                 }
             }
         }
-        "script" => out.write_all(histogram::script().0.as_bytes()).unwrap(),
-        "ledger" => out.write_all(histogram::script().1.as_bytes()).unwrap(),
         "lines" => out.write_all(&lines::hard()).unwrap(),
         "codes" => {
             std::io::stdin().lock().read_to_end(&mut given).unwrap();
@@ -91,7 +87,7 @@ fn main() {
             writeln!(out, "{:04x}", checksum::of(&given)).unwrap();
         }
         _ => {
-            eprintln!("usage: reference feed | answers | checksum | script | ledger | lines | codes");
+            eprintln!("usage: reference feed | answers | checksum | lines | codes");
             std::process::exit(2);
         }
     }
