@@ -34,8 +34,6 @@ pub use Rattle.text.specs.OneOutcome.{text-one, number-one as text-number-one}
 pub use Rattle.lines.specs.OneOutcome.{fresh-one, taken-one, header-one as lines-header-one, put-answer-one, run-one}
 -- what the code program prints with
 pub use Rattle.printing.specs.OneOutcome.{header-one as printing-header-one, piece-one, last-one}
--- what a test program is fed
-pub use Rattle.feed.specs.OneOutcome.{next-one, front-one, after-one, byte-one, two-one, four-one, eight-one}
 -- a state as words
 pub use Rattle.stored.specs.OneOutcome.{restore-one, store-one, restore-number-one}
 -- the C interface: packets and messages

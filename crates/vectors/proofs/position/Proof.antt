@@ -1,26 +1,25 @@
--- `vectors::hex` is safe and ends: the measure is what is left of the bytes.
+-- `vectors::position` is safe and ends: the measure is the number of bytes that are left.
 -- Assumes nothing.
 use Prim.Native.Nat.{_-_, _≤_}
-use mathlib.Core.Path.{_≡_}
+use native.Mathlib.Omega.{arith}
 use borrow.Author.Needs.{needs}
-use lib.ListN.{length}
-use Rattle.vectors.proofs.say.hex.Statement.{statement}
-use Rattle.vectors.proofs.say.hex.Tie as tie
+use Rattle.vectors.proofs.position.Statement.{statement}
+use Rattle.vectors.proofs.position.Tie as tie
 
 abbrev Inv-loop : tie.InvT-loop
-Inv-loop bytes i₀ i = i ≤ length bytes
+Inv-loop head at₀ i₀ at i = i ≤ 11
 
 abbrev μ-loop : tie.MeasureT-loop
-μ-loop bytes i₀ i = length bytes - i
+μ-loop head at₀ i₀ at i = 11 - i
 
 loop-holds : tie.Need-loop-holds Inv-loop μ-loop
 loop-holds c = search needs
 
-byte-requires : tie.Need-byte-requires Inv-loop μ-loop
-byte-requires c κs = search needs
+element-copy-out-wide : tie.Need-element-copy-out-wide Inv-loop μ-loop
+element-copy-out-wide c = search needs
 
-print-hex-requires : tie.Need-print-hex-requires Inv-loop μ-loop
-print-hex-requires c κs = search needs
+wide-requires : tie.Need-wide-requires Inv-loop μ-loop
+wide-requires c κs = search needs
 
 add-i : tie.Need-add-i Inv-loop μ-loop
 add-i c = search needs
@@ -34,15 +33,15 @@ loop-again c = search needs
 returns : tie.Need-returns Inv-loop μ-loop
 returns c = search needs
 
-pub hex-spec : {M : Type 1} → statement M
-hex-spec =
+pub position-spec : {M : Type 1} → statement M
+position-spec =
     tie.close
     (tie.spec
     Inv-loop
     μ-loop
     loop-holds
-    byte-requires
-    print-hex-requires
+    element-copy-out-wide
+    wide-requires
     add-i
     loop-less
     loop-again
