@@ -71,11 +71,9 @@ fn number(random: &mut Random) -> i32 {
     if random.below(2) == 0 { beside as i32 } else { -beside as i32 }
 }
 
-/// A number packed, and what was packed read again.
-fn pack(tally: &mut Tally, random: &mut Random) {
-    let value = number(random);
-    let (at, drop, held) = (position(random), drop(random), random.next());
-    let mut proved = Lent::new(&some(random, 9), random.next() as u8);
+/// A number packed into a buffer, and what was packed read again.
+fn pack(tally: &mut Tally, buffer: &[u8], at: u64, value: i32, drop: u8, held: u64) {
+    let mut proved = Lent::new(buffer, held as u8);
     let mut plain = proved.clone();
     let mut next = held;
     let buffer = proved.part();
@@ -90,15 +88,106 @@ fn pack(tally: &mut Tally, random: &mut Random) {
     unpack(tally, &bytes, at, drop, held);
 }
 
-/// Numbers packed and read again.
-pub fn drive(random: &mut Random, cases: u64, tally: &mut Tally) {
-    for _ in 0..cases {
-        pack(tally, random);
+/// All of -5,120 to 5,120 and both ends of the range and of i32, at every bit offset.
+fn ranges(random: &mut Random, tally: &mut Tally) {
+    let ends = [33_554_431, -33_554_431, i32::MAX - 100, i32::MIN + 100];
+    let beside = ends.into_iter().flat_map(|end| end - 100..=end.saturating_add(100));
+    for value in (-5120..=5120).chain(beside) {
+        for drop in [0, 3] {
+            for at in 0..8 {
+                pack(tally, &[random.next() as u8; 6], at, value, drop, random.next());
+            }
+        }
     }
 }
 
-/// Bits that nobody packed, long runs of ones among them, as numbers, readings and rates.
+/// Numbers about each power of two: packed at some position, and read with each number of bytes cut off.
+fn cuts(random: &mut Random, tally: &mut Tally) {
+    for value in (0..26).flat_map(|k| [1 << k, (1 << k) - 1, -(1 << k), 3 << k >> 1]) {
+        for drop in [0, 3] {
+            let at = random.below(20);
+            let mut buffer = random.bytes(6);
+            pack(tally, &buffer, at, value, drop, random.next());
+            if code::pack(&mut buffer, at, value, drop).is_ok() {
+                for length in 0..6 {
+                    unpack(tally, &buffer[..length], at, drop, random.next());
+                }
+            }
+        }
+    }
+}
+
+/// Every short buffer, drops outside the rule, and positions at the end, past it and from 2^63 on.
+fn hostile(random: &mut Random, tally: &mut Tally) {
+    let positions = [0, 1, 7, 8, 9, 15, 16, 31, 1 << 40, (1 << 63) - 1, 1 << 63, u64::MAX - 7, u64::MAX];
+    for at in positions {
+        for drop in [0, 1, 2, 3, 4, 255] {
+            for length in 0..6 {
+                for value in [0, 1, -16, 32, 100, 65_535, -33_554_431] {
+                    pack(tally, &random.bytes(length), at, value, drop, random.next());
+                }
+                unpack(tally, &vec![0; length], at, drop, random.next());
+            }
+        }
+    }
+}
+
+/// Numbers packed and read again: at the edges, then by chance.
+pub fn drive(random: &mut Random, cases: u64, tally: &mut Tally) {
+    ranges(random, tally);
+    cuts(random, tally);
+    hostile(random, tally);
+    for _ in 0..cases {
+        let (value, buffer) = (number(random), some(random, 9));
+        let (at, drop) = (position(random), drop(random));
+        pack(tally, &buffer, at, value, drop, random.next());
+    }
+}
+
+/// All patterns of up to 16 bits: each position in two bytes with nothing before it, as numbers; from the front as readings, and
+/// as rates at every level and past them.
+fn patterns(random: &mut Random, tally: &mut Tally) {
+    for drop in [0, 3] {
+        for pattern in 0..=u16::MAX {
+            let bytes = pattern.to_be_bytes();
+            let held = random.next();
+            for at in 0..=pattern.leading_zeros() as u64 {
+                unpack(tally, &bytes, at, drop, held);
+            }
+            reading(tally, &bytes, 0, drop, held);
+            for level in 0..=8 {
+                rate(tally, &bytes, 0, drop, level, held);
+            }
+        }
+    }
+}
+
+/// Chosen counts and refused codes, as readings and as rates: drops and levels outside the rule, positions past the end.
+fn chosen(random: &mut Random, tally: &mut Tally) {
+    let mut given: Vec<(Vec<u8>, u64)> = [&[][..], &[0xff, 0xff], &[0x80, 0x00], &[0xc0]].map(|bytes| (bytes.to_vec(), 0)).into();
+    for count in [0, 1, 3, 4, 7, 8, 15, 16, 31, 32, 33, 100, 1000, 8191, 8192, 1_000_000, 33_554_430, 33_554_431] {
+        for (value, drop) in [(count, 0), (-count, 0), (count, 3), (-count, 3)] {
+            let (mut bytes, at) = (vec![0; 5], random.below(8));
+            code::pack(&mut bytes, at, value, drop).unwrap();
+            given.push((bytes, at));
+        }
+    }
+    for (bytes, at) in given {
+        for drop in [0, 1, 3, 9] {
+            for place in [at, 1 << 63] {
+                reading(tally, &bytes, place, drop, random.next());
+                for level in [0, 1, 2, 3, 4, 5, 6, 7, 8, 255] {
+                    rate(tally, &bytes, place, drop, level, random.next());
+                }
+            }
+        }
+    }
+}
+
+/// Bits that nobody packed, long runs of ones among them, as numbers, readings and rates: all short ones, then by chance.
 pub fn drive_patterns(random: &mut Random, cases: u64, tally: &mut Tally) {
+    patterns(random, tally);
+    chosen(random, tally);
     for _ in 0..cases {
         let mut bytes = some(random, 7);
         for byte in &mut bytes {

@@ -53,8 +53,10 @@ pub fn drive(random: &mut Random, cases: u64, tally: &mut Tally) {
         let value = format::value(n as u64, 12);
         count(tally, value, random.next());
         count(tally, value.wrapping_sub(1), random.next());
+        count(tally, value + 1, random.next());
     }
-    for beside in (0..64).flat_map(|bit| [(1u64 << bit) - 1, 1 << bit, (1 << bit) + 1]) {
+    let around = (0..=255).map(|code| format::value(code, 3)).chain((0..64).map(|bit| 1 << bit)).chain([u64::MAX]);
+    for beside in around.flat_map(|n| [n.wrapping_sub(1), n, n.wrapping_add(1)]) {
         count(tally, beside, random.next());
     }
     for _ in 0..cases {

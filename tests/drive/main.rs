@@ -5,25 +5,18 @@
 //!                               that differ; exit status 1 where any does
 
 #[path = "../reference/cadence.rs"]
-#[allow(dead_code)]
 mod cadence;
 #[path = "../reference/checksum.rs"]
-#[allow(dead_code)]
 mod checksum;
 #[path = "../reference/code.rs"]
-#[allow(dead_code)]
 mod code;
 #[path = "../reference/format.rs"]
-#[allow(dead_code)]
 mod format;
 #[path = "../reference/histogram.rs"]
-#[allow(dead_code)]
 mod histogram;
 #[path = "../reference/message.rs"]
-#[allow(dead_code)]
 mod message;
 #[path = "../reference/packet.rs"]
-#[allow(dead_code)]
 mod packet;
 #[path = "../reference/random.rs"]
 mod random;

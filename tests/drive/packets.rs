@@ -92,15 +92,11 @@ fn header(tally: &mut Tally, capture: &[u8], at: u64, held: u16) {
     tally.compare(|| format!("payload at {at} of {capture:02x?}"), (start, size), plain);
 }
 
-fn write(tally: &mut Tally, random: &mut Random) {
-    let n = match random.below(60) {
-        0 => 8180 + random.below(20),
-        _ => random.below(40),
-    } as usize;
+/// A packet of n bytes of data, written into a buffer of so many bytes.
+fn write(tally: &mut Tally, random: &mut Random, n: usize, room: usize) {
     let data = random.bytes(n);
-    let room = (n as u64 + 6 + random.below(8)).saturating_sub(random.below(3) * random.below(40));
     let (apid, held) = (random.next() as u16, random.next());
-    let mut proved = Lent::new(&random.bytes(room as usize), random.next() as u8);
+    let mut proved = Lent::new(&random.bytes(room), random.next() as u8);
     let mut plain = proved.clone();
     let mut written = held;
     let buffer = proved.part();
@@ -115,15 +111,94 @@ fn write(tally: &mut Tally, random: &mut Random) {
     tally.compare(|| format!("write {n} bytes into {room}"), (number, written, proved), (answer.0, answer.1, plain));
 }
 
+fn sum(tally: &mut Tally, bytes: &[u8]) {
+    let sum = unsafe { raw::plv_checksum(bytes.as_ptr(), bytes.len()) };
+    tally.compare(|| format!("checksum of {bytes:02x?}"), sum, checksum::of(bytes));
+}
+
+/// Packets of several sizes: whole, in noise, cut by the end at each of the first bytes and the last ones, and with one bit of
+/// damage in each field and in the middle of the data.
+fn packets(random: &mut Random, all: &mut Vec<Vec<u8>>) {
+    for n in [0, 1, 2, 5, 100, 8187] {
+        let data = random.bytes(n);
+        let packet = packet::bytes(random.next() as u16, &data);
+        let noise = random.bytes(7);
+        all.push(packet.clone());
+        all.push([&noise[..], &packet, &noise].concat());
+        for cut in (0..packet.len().min(12)).chain(packet.len().saturating_sub(3)..packet.len()) {
+            all.push([&noise[..], &packet[..cut]].concat());
+        }
+        for place in (0..packet.len().min(10)).chain([packet.len() / 2, packet.len() - 2, packet.len() - 1]) {
+            let mut damaged = packet.clone();
+            damaged[place] ^= 1 << random.below(8);
+            all.push([&damaged[..], &packet].concat());
+        }
+    }
+}
+
+/// Captures that are seldom met by chance.
+fn chosen(random: &mut Random) -> Vec<Vec<u8>> {
+    let mut all = vec![vec![], vec![0xbe], MARK.to_vec()];
+    packets(random, &mut all);
+    // a good packet inside a good one and inside a damaged one, and marks inside data
+    let inner = packet::bytes(7, b"inside");
+    let outer = packet::bytes(9, &[&random.bytes(20)[..], &inner, &random.bytes(20)].concat());
+    let mut damaged = outer.clone();
+    *damaged.last_mut().unwrap() ^= 0x40;
+    all.extend([outer, damaged]);
+    let marks = packet::bytes(3, &[&MARK[..], &[0x00, 0x04], &MARK].concat());
+    all.push([&MARK[..2], &marks].concat());
+    // length words under 4, and with top bits set, under a right checksum
+    for length in [0u16, 1, 2, 3, 4, 5, 0x2004, 0x4004, 0x8004, 0xe004, 0xffff] {
+        let mut forged = [&MARK[..], &length.to_be_bytes(), &[1, 2]].concat();
+        let sum = checksum::of(&forged);
+        forged.extend(sum.to_be_bytes());
+        forged.extend(packet::bytes(1, b"after"));
+        all.push(forged);
+    }
+    // packets back to back, marks everywhere, and the longest captures, with a packet at their very end
+    all.push([packet::bytes(1, b"a"), packet::bytes(2, b"bc"), packet::bytes(3, b"")].concat());
+    all.push(MARK.repeat(600));
+    all.push([&random.bytes(3000)[..], &packet::bytes(77, &random.bytes(500))].concat());
+    all.push(random.bytes(65_536));
+    for noise in [65_526, 65_527] {
+        all.push([&vec![0; noise][..], &packet::bytes(5, b"")].concat());
+    }
+    all
+}
+
+/// Every length of a checksum up to 600 and about a whole packet's; the chosen captures at every place near their front, at their
+/// end and far past it; writing at each edge of data and buffer.
+fn edges(random: &mut Random, tally: &mut Tally) {
+    for length in (0..=600).chain(8195..=8197) {
+        sum(tally, &random.bytes(length));
+    }
+    for filling in [0x00, 0xff, 0xbe] {
+        sum(tally, &vec![filling; 8197]);
+    }
+    for capture in chosen(random) {
+        find(tally, &capture, random.next() >> 1);
+        let far = [capture.len() as u64, u64::MAX - random.below(12)];
+        for at in (0..40).chain(far) {
+            header(tally, &capture, at, random.next() as u16);
+        }
+    }
+    for n in [0, 1, 2, 100, 8186, 8187, 8188, 9000] {
+        for room in [n, n + 9, n + 10, n + 11, n + 40] {
+            write(tally, random, n, room);
+        }
+    }
+}
+
 pub fn drive(random: &mut Random, cases: u64, tally: &mut Tally) {
+    edges(random, tally);
     for case in 0..cases {
         let mut capture = capture(random, 2);
         if case % 1000 == 999 {
             let length = 65_534 + random.below(6) as usize;
             capture.extend(random.bytes(length.saturating_sub(capture.len())));
         }
-        let sum = unsafe { raw::plv_checksum(capture.as_ptr(), capture.len()) };
-        tally.compare(|| format!("checksum of {capture:02x?}"), sum, checksum::of(&capture));
+        sum(tally, &capture);
         find(tally, &capture, random.next() >> 1);
         for _ in 0..2 {
             let at = match random.below(8) {
@@ -137,6 +212,11 @@ pub fn drive(random: &mut Random, cases: u64, tally: &mut Tally) {
             };
             header(tally, &capture, at, random.next() as u16);
         }
-        write(tally, random);
+        let n = match random.below(60) {
+            0 => 8180 + random.below(20),
+            _ => random.below(40),
+        };
+        let room = (n + 6 + random.below(8)).saturating_sub(random.below(3) * random.below(40));
+        write(tally, random, n as usize, room as usize);
     }
 }

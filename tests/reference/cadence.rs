@@ -17,29 +17,3 @@ pub fn beginning(t: u16) -> Result<u16, u8> {
 pub fn ending(t: u16) -> Result<u16, u8> {
     if t < 3600 { Ok(highest(t + 1) as u16) } else { Err(19) }
 }
-
-/// The line of a cadence call: 0 and the number, or the refusal. Given: the call's letter and two bytes of number.
-pub fn line(given: &[u8]) -> String {
-    let n = u16::from_be_bytes([given[1], given[2]]);
-    let answer = match given[0] {
-        b's' => seconds(n as u8),
-        b'b' => beginning(n),
-        _ => ending(n),
-    };
-    match answer {
-        Ok(number) => format!("0 {number}"),
-        Err(number) => format!("{number}"),
-    }
-}
-
-/// The stored vectors: every level a byte can say, every second of the hour and past it.
-pub fn blocks(all: &mut Vec<Vec<u8>>) {
-    for level in 0..256u16 {
-        all.push([&[b't', b's'][..], &level.to_be_bytes()].concat());
-    }
-    for second in (0..3610u16).chain([7200, 65_534, 65_535]) {
-        for call in [b'b', b'e'] {
-            all.push([&[b't', call][..], &second.to_be_bytes()].concat());
-        }
-    }
-}

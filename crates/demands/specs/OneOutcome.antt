@@ -34,12 +34,6 @@ pub use Rattle.text.specs.OneOutcome.{text-one, number-one as text-number-one}
 pub use Rattle.lines.specs.OneOutcome.{fresh-one, taken-one, header-one as lines-header-one, put-answer-one, run-one}
 -- what the code program prints with
 pub use Rattle.printing.specs.OneOutcome.{header-one as printing-header-one, piece-one, last-one}
--- the script of a soak, the lines of its account, and its tally
-pub use Rattle.script.specs.OneOutcome.{open-one as script-open-one, number-one as script-number-one, order-one}
-pub use Rattle.account.specs.OneOutcome.{write-one as account-write-one}
-pub use Rattle.tally.specs.OneOutcome.{count-one as tally-count-one, handed-one as tally-handed-one}
--- what a test program is fed
-pub use Rattle.feed.specs.OneOutcome.{next-one, front-one, after-one, byte-one, two-one, four-one, eight-one}
 -- a state as words
 pub use Rattle.stored.specs.OneOutcome.{restore-one, store-one, restore-number-one}
 -- the C interface: packets and messages

@@ -71,7 +71,7 @@ glyph-is : (d : ℕ) → d < 10 → glyph d ≡ 48 + d
 glyph-is d h = rw (lt-ltb d 10 h)
 
 -- the fewest digits are the shortest decimal
-pub shortest-is : (places k n : ℕ) → Fewest 10 1 n k → k ≤ places → digits 10 k n ≡ shortest places n
+shortest-is : (places k n : ℕ) → Fewest 10 1 n k → k ≤ places → digits 10 k n ≡ shortest places n
 unfolding shortest
 shortest-is zero zero n f h = absurd (not-suc-le-zero (f .0))
 shortest-is zero (suc k) n f h = absurd (not-suc-le-zero h)
@@ -97,22 +97,18 @@ shortest-is (suc places) (suc (suc k)) n f h =
     (shortest-is places (suc k) (n / 10) (omega arith, above, λ more. subst (λ (m : ℕ). 10 ^ m ≤ n / 10) fewer below) (le-of-suc-le-suc h))
     (glyph-is (n % 10) (omega arith)))
 
--- a number under a power of ten has at most so many digits
-pub digits-few : {n k : ℕ} (most : ℕ) → 1 ≤ most → Fewest 10 1 n k → n < 10 ^ most → k ≤ most
-digits-few {n} {k} most some f h = go (leb k most) refl
-  where
-    go : (b : Bool) → leb k most ≡ b → k ≤ most
-    go true t = leb-true k most t
-    go false t =
-        let over : most < k = leb-false k most t in
-        let low : 10 ^ (k - 1) ≤ n = f .2 (omega arith) in
-        let more : most ≤ k - 1 = omega arith in
-        let top : 10 ^ most ≤ 10 ^ (k - 1) = pow-le-pow-right (zero-lt-suc 9) more in
-        absurd (omega arith)
-
 -- a number under a hundred million has at most eight digits
 pub decimal-few : {n k : ℕ} → Fewest 10 1 n k → n < 100000000 → k ≤ 8
-decimal-few f h = digits-few 8 (omega arith) f h
+decimal-few {n} {k} f h = go (leb k 8) refl
+  where
+    go : (b : Bool) → leb k 8 ≡ b → k ≤ 8
+    go true t = leb-true k 8 t
+    go false t =
+        let over : 8 < k = leb-false k 8 t in
+        let low : 10 ^ (k - 1) ≤ n = f .2 (omega arith) in
+        let more : 8 ≤ k - 1 = omega arith in
+        let top : 10 ^ 8 ≤ 10 ^ (k - 1) = pow-le-pow-right (zero-lt-suc 9) more in
+        absurd (omega arith)
 
 -- the digits that were put are the shortest decimal
 pub decimal-put : {room text after : List ℕ} {at r n k : ℕ} → Fewest 10 1 n k → n < 100000000 → text ≡ digits 10 k n

@@ -1,2 +1,0 @@
-mod Auditing
-mod Entering

@@ -1,0 +1,132 @@
+//! The records that the program `vectors` is fed, and the lines that it must print: what the exported calls do not reach.
+//! A record is a letter, a drop, how many bytes it has, eight bytes of bit position, and those bytes.
+
+use crate::code;
+use crate::random::Random;
+
+/// Document 01's numbers of each answer, its cases in the order of the Rattle enum: found, headed, written; a message read,
+/// written; packed, unpacked; the codes of 16, 8 and 24 bits, the count of 24 bits; a level's length, a second's level; a reading
+/// and a rate.
+const NUMBERS: [&[u8]; 15] = [
+    &[0, 20, 1],
+    &[0, 20, 1],
+    &[0, 2, 3],
+    &[0, 4, 5, 6],
+    &[0, 7, 3],
+    &[0, 8, 3],
+    &[0, 8, 9, 10, 11],
+    &[0, 12],
+    &[0, 12],
+    &[0, 12],
+    &[0, 12],
+    &[0, 19],
+    &[0, 19],
+    &[0, 8, 9, 10, 11],
+    &[0, 8, 9, 10, 11, 19],
+];
+
+fn record(letter: u8, drop: u8, at: u64, bytes: &[u8]) -> Vec<u8> {
+    [&[letter, drop, bytes.len() as u8][..], &at.to_be_bytes(), bytes].concat()
+}
+
+/// The line of a code: 0, the number and the next position; or the refusal.
+fn code_line(bytes: &[u8], at: u64, drop: u8) -> (String, Option<u64>) {
+    match code::read(bytes, at, drop) {
+        Ok(r) => {
+            let (sign, next) = (if r.negative { "-" } else { "" }, at + r.taken);
+            (format!("0 {sign}{} {next}\n", r.magnitude), Some(next))
+        }
+        Err(number) => (format!("{number}\n"), None),
+    }
+}
+
+/// The lines of all records of an input.
+pub fn answers(mut input: &[u8]) -> String {
+    let mut all = String::new();
+    while let [letter, drop, size, rest @ ..] = input {
+        let (at, rest) = rest.split_at(8);
+        let (bytes, rest) = rest.split_at(*size as usize);
+        input = rest;
+        let mut place = Some(u64::from_be_bytes(at.try_into().unwrap()));
+        match letter {
+            b'r' => all += &code_line(bytes, place.unwrap(), *drop).0,
+            b'm' => {
+                while let Some(at) = place {
+                    let (line, next) = code_line(bytes, at, *drop);
+                    all += &line;
+                    place = next;
+                }
+            }
+            _ => {
+                let numbers: Vec<String> = NUMBERS[*drop as usize].iter().map(u8::to_string).collect();
+                all += &(numbers.join(" ") + "\n");
+            }
+        }
+    }
+    all
+}
+
+/// A run of codes packed one after the other from a position on, small numbers as often as large ones.
+fn packed(random: &mut Random, at: u64, drop: u8) -> Vec<u8> {
+    let mut bytes = random.bytes(40);
+    let mut next = at;
+    for _ in 0..3 + random.below(20) {
+        let value = random.next() as i32 >> (7 + random.below(25));
+        match code::pack(&mut bytes, next, value, drop) {
+            Ok(end) => next = end,
+            Err(_) => break,
+        }
+    }
+    bytes.truncate(next.div_ceil(8) as usize);
+    bytes
+}
+
+/// Runs of codes: whole, with a bit of damage, with bytes cut off; and asked for with the other drop.
+fn runs(random: &mut Random, all: &mut Vec<u8>) {
+    for round in 0..60 {
+        let (at, drop) = (random.below(20), [0, 3][round % 2]);
+        let whole = packed(random, at, drop);
+        let mut damaged = whole.clone();
+        let place = random.below(whole.len() as u64) as usize;
+        damaged[place] ^= 1 << random.below(8);
+        let cut = &whole[..random.below(whole.len() as u64) as usize];
+        for (letter, drop, bytes) in [(b'm', drop, &whole[..]), (b'm', drop, &damaged), (b'm', drop, cut), (b'm', 3 - drop, &whole)] {
+            all.extend(record(letter, drop, at, bytes));
+        }
+    }
+}
+
+/// Single codes: bits that nobody packed, at every place and past the end, positions from 2^63 on, drops outside the rule, no bytes.
+fn singles(random: &mut Random, all: &mut Vec<u8>) {
+    for _ in 0..300 {
+        let count = random.below(6);
+        let mut bytes = random.bytes(count as usize);
+        if let [first, second, ..] = &mut bytes[..] {
+            *first |= [0, 0xff][random.below(2) as usize];
+            *second |= [0, 0xff][random.below(2) as usize];
+        }
+        let at = random.below(8 * count + 4);
+        all.extend(record(b'r', [0, 3][random.below(2) as usize], at, &bytes));
+    }
+    for letter in [b'r', b'm'] {
+        for at in [0, 7, 8, 9, 1 << 40, (1 << 63) - 1, 1 << 63, u64::MAX] {
+            for drop in [0, 1, 2, 3, 4, 255] {
+                for bytes in [&[][..], &[0x00], &[0x80, 0x00], &[0xff, 0xff]] {
+                    all.extend(record(letter, drop, at, bytes));
+                }
+            }
+        }
+    }
+}
+
+/// Every stored record, in order.
+pub fn feed() -> Vec<u8> {
+    let mut random = Random::new(1);
+    let mut all = Vec::new();
+    for which in 0..NUMBERS.len() as u8 {
+        all.extend(record(b'n', which, 0, &[]));
+    }
+    singles(&mut random, &mut all);
+    runs(&mut random, &mut all);
+    all
+}
