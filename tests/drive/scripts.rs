@@ -21,9 +21,9 @@ fn open(board: &mut Board) -> u8 {
 }
 
 fn open_plain(board: &mut Board) -> Result<(), u8> {
-    let state = board.state.part();
-    let front = state.get_mut(..raw::STATE_WORDS).ok_or(13)?;
-    front.copy_from_slice(&stored::words(&histogram::open(board.memory.part())?));
+    stored::state(board.state.part())?;
+    let opened = histogram::open(board.memory.part())?;
+    stored::opened(board.state.part(), &opened);
     Ok(())
 }
 
@@ -45,7 +45,7 @@ fn flip(board: &mut Board) -> u8 {
 fn flip_plain(board: &mut Board) -> Result<(), u8> {
     let mut state = stored::state(board.state.part())?;
     histogram::flip(board.memory.part(), &mut state)?;
-    board.state.part()[..raw::STATE_WORDS].copy_from_slice(&stored::words(&state));
+    stored::flipped(board.state.part(), &state);
     Ok(())
 }
 
@@ -74,10 +74,11 @@ fn ask(board: &mut Board, number: u16, w: &Window, clear: u8, held: u64) -> (u8,
 
 fn ask_plain(board: &mut Board, number: u16, window: Window) -> Result<(u64, u8), u8> {
     let mut state = stored::state(board.state.part())?;
-    let asked = histogram::ask(board.memory.part(), &mut state, number, window)?;
-    board.state.part()[..raw::STATE_WORDS].copy_from_slice(&stored::words(&state));
-    Ok(match asked {
-        Asked::New(sum) => (sum, 0),
+    Ok(match histogram::ask(board.memory.part(), &mut state, number, window)? {
+        Asked::New(sum) => {
+            stored::asked(board.state.part(), &state.kept.unwrap());
+            (sum, 0)
+        }
         Asked::Again(sum) => (sum, 1),
     })
 }
@@ -152,8 +153,10 @@ impl Script {
     fn forge(&mut self, random: &mut Random) {
         forge(random, &mut self.plain);
         self.proved = self.plain.clone();
-        if let Ok(Some((number, window, _))) = stored::state(self.plain.state.part()).map(|s| s.kept) {
-            (self.last, self.next) = ((number, window), number.wrapping_add(1));
+        if let Ok(Some(kept)) = stored::state(self.plain.state.part()).map(|state| state.kept) {
+            let (address, xsize, ysize, ystride) = (kept.address as u32, kept.xsize as u8, kept.ysize as u8, kept.ystride as u16);
+            self.last = (kept.number as u16, Window { address, xsize, ysize, ystride, clear: kept.clear });
+            self.next = self.last.0.wrapping_add(1);
         }
     }
 

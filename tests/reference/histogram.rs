@@ -11,11 +11,30 @@ pub struct Window {
     pub clear: bool,
 }
 
+/// The last accepted ask: its number, window and sum. Numbers are wide: whoever holds the state could have written any.
+#[derive(Clone, Copy, PartialEq)]
+pub struct Kept {
+    pub number: u64,
+    pub address: u64,
+    pub xsize: u64,
+    pub ysize: u64,
+    pub ystride: u64,
+    pub clear: bool,
+    pub sum: u64,
+}
+
+impl Kept {
+    pub fn of(number: u16, w: Window, sum: u64) -> Kept {
+        let (address, xsize, ysize, ystride) = (w.address as u64, w.xsize as u64, w.ysize as u64, w.ystride as u64);
+        Kept { number: number as u64, address, xsize, ysize, ystride, clear: w.clear, sum }
+    }
+}
+
 #[derive(Clone, Copy)]
 pub struct State {
-    pub words: usize,
+    pub words: u64,
     pub upper_active: bool,
-    pub kept: Option<(u16, Window, u64)>,
+    pub kept: Option<Kept>,
 }
 
 pub enum Asked {
@@ -29,12 +48,12 @@ pub fn open(memory: &mut [u32]) -> Result<State, u8> {
         return Err(13);
     }
     memory.fill(0);
-    Ok(State { words, upper_active: false, kept: None })
+    Ok(State { words: words as u64, upper_active: false, kept: None })
 }
 
 fn fits(memory: &[u32], state: &State) -> Result<usize, u8> {
     let words = memory.len();
-    if words % 2 == 1 || !(2..=524_288).contains(&words) || words != state.words {
+    if words % 2 == 1 || !(2..=524_288).contains(&words) || words as u64 != state.words {
         return Err(13);
     }
     Ok(words / 2)
@@ -76,13 +95,17 @@ pub fn cells(window: &Window) -> Vec<u64> {
 
 pub fn ask(memory: &mut [u32], state: &mut State, number: u16, window: Window) -> Result<Asked, u8> {
     let n = fits(memory, state)?;
-    if let Some((last, kept, sum)) = state.kept {
-        if number == last {
-            return if kept == window { Ok(Asked::Again(sum)) } else { Err(18) };
+    if let Some(kept) = state.kept {
+        if number as u64 == kept.number {
+            return if kept == Kept::of(number, window, kept.sum) { Ok(Asked::Again(kept.sum)) } else { Err(18) };
         }
     }
-    let next = state.kept.map_or(1, |(last, _, _)| last.wrapping_add(1));
-    if number != next {
+    let next = match state.kept {
+        None => 1,
+        Some(kept) if kept.number == 65_535 => 0,
+        Some(kept) => kept.number.saturating_add(1),
+    };
+    if number as u64 != next {
         return Err(17);
     }
     let visited = cells(&window);
@@ -101,6 +124,6 @@ pub fn ask(memory: &mut [u32], state: &mut State, number: u16, window: Window) -
             *word = 0;
         }
     }
-    state.kept = Some((number, window, sum));
+    state.kept = Some(Kept::of(number, window, sum));
     Ok(Asked::New(sum))
 }
