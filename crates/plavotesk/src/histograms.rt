@@ -1,29 +1,36 @@
-// Histogram memory and numbered asks; the state is ten words that the caller lends and keeps.
-ghost use Rattle.lent_histogram.specs.Meaning.{askLeaves, flipLeaves, incrementLeaves, openLeaves, windowOf};
-ghost use Rattle.lent_histogram.specs.Promise.{AskPromise, FlipPromise, IncrementPromise, OpenPromise};
+// Histogram memory and numbered asks; the state is words that the caller lends and keeps.
+use histogram::AskAnswer;
+use histogram::Window;
+ghost use mathlib.Core.Path.{_≡_};
+ghost use Rattle.histogram.specs.Answers.{askPaper};
+ghost use Rattle.plavotesk.specs.Meaning.{AskValues, toldAsk, windowOf};
+ghost use Rattle.plavotesk.specs.Promise.{HistogramOpenPromise, HistogramIncrementPromise, HistogramFlipPromise, HistogramAskPromise};
 
-// Takes 2N words, sets them all to 0, and puts the opened state into ten lent words; 13.
+// Takes 2N words, sets them all to 0, and makes the state of an opened memory in lent words; 13.
 #[no_mangle]
 pub extern "C" fn plv_histogram_open(memory: &mut [u32], state: &mut [u64]) -> u8
-    ensures { λ r. ⌜ OpenPromise (openLeaves (now (memory .entry)) (now (state .entry))) r (now (memory .exit)) (now (state .exit)) ⌝ }
+    ensures { λ r. ⌜ HistogramOpenPromise (now (memory .entry)) (now (state .entry)) (record { number = r; memory = now (memory .exit); state = now (state .exit) }) ⌝ }
 {
-    lent_histogram::open(memory, state)
+    let answer = histogram::open(memory, state);
+    histogram::open_number(answer)
 }
 
 // Adds 1 to the word at an address of the active page; 13, 14, 16, 15.
 #[no_mangle]
 pub extern "C" fn plv_histogram_increment(memory: &mut [u32], state: &[u64], address: u32) -> u8
-    ensures { λ r. ⌜ IncrementPromise (incrementLeaves (now (memory .entry)) (now (state .entry)) address) r (now (memory .exit)) ⌝ }
+    ensures { λ r. ⌜ HistogramIncrementPromise (now (memory .entry)) (now (state .entry)) address (record { number = r; memory = now (memory .exit); state = now (state .entry) }) ⌝ }
 {
-    lent_histogram::increment(memory, state, address)
+    let answer = histogram::increment(memory, state, address);
+    histogram::increment_number(answer)
 }
 
 // Exchanges the active page and the idle one; 13.
 #[no_mangle]
 pub extern "C" fn plv_histogram_flip(memory: &[u32], state: &mut [u64]) -> u8
-    ensures { λ r. ⌜ FlipPromise (flipLeaves (now (memory .entry)) (now (state .entry))) r (now (state .exit)) ⌝ }
+    ensures { λ r. ⌜ HistogramFlipPromise (now (memory .entry)) (now (state .entry)) (record { number = r; memory = now (memory .entry); state = now (state .exit) }) ⌝ }
 {
-    lent_histogram::flip(memory, state)
+    let answer = histogram::flip(memory, state);
+    histogram::flip_number(answer)
 }
 
 // Sums a window of the idle page, once for each number; clear 0 keeps, any other number clears, and again is 1 for a repeat, 0 for a new ask; 13, 18, 17, 14, 16.
@@ -40,18 +47,44 @@ pub extern "C" fn plv_histogram_ask(
     sum: &mut u64,
     again: &mut u8,
 ) -> u8
-    ensures { λ r. ⌜ AskPromise (askLeaves (now (memory .entry)) (now (state .entry)) number (windowOf address xsize ysize ystride clear)) (now (sum .entry)) (now (again .entry)) r (now (memory .exit)) (now (state .exit)) (now (sum .exit)) (now (again .exit)) ⌝ }
+    ensures { λ r. ⌜ HistogramAskPromise (now (memory .entry)) (now (state .entry)) number (windowOf address xsize ysize ystride clear) (record { sum = now (sum .entry); again = now (again .entry) }) (record { number = r; memory = now (memory .exit); state = now (state .exit) }, record { sum = now (sum .exit); again = now (again .exit) }) ⌝ }
 {
-    lent_histogram::ask(
-        memory,
-        state,
-        number,
+    let asked = window(address, xsize, ysize, ystride, clear);
+    let answer = histogram::ask(memory, state, number, asked);
+    hand_over(answer, sum, again);
+    histogram::ask_number(answer)
+}
+
+// The window of an ask; clear 0 keeps, any other number clears.
+fn window(address: u32, xsize: u8, ysize: u8, ystride: u16, clear: u8) -> Window
+    ensures { λ r. ⌜ r ≡ windowOf address xsize ysize ystride clear ⌝ }
+{
+    Window {
         address,
         xsize,
         ysize,
         ystride,
-        clear,
-        sum,
-        again,
-    )
+        clear: clear != 0,
+    }
+}
+
+// Writes an accepted ask's sum, and whether it was answered again; nothing where it was refused.
+fn hand_over(answer: AskAnswer, sum: &mut u64, again: &mut u8)
+    ensures { λ _. ⌜ _≡_ {A = AskValues} (record { sum = now (sum .exit); again = now (again .exit) }) (toldAsk (askPaper answer) (record { sum = now (sum .entry); again = now (again .entry) })) ⌝ }
+{
+    match answer {
+        AskAnswer::New { sum: total } => {
+            *sum = total;
+            *again = 0;
+        }
+        AskAnswer::Again { sum: total } => {
+            *sum = total;
+            *again = 1;
+        }
+        AskAnswer::WrongMemory => (),
+        AskAnswer::WrongCell => (),
+        AskAnswer::AboveFull => (),
+        AskAnswer::OutOfTurn => (),
+        AskAnswer::OtherWindow => (),
+    }
 }

@@ -1,0 +1,77 @@
+-- What an exported call answers, its number, with what the lent places hold after it.
+-- Assumes nothing.
+use mathlib.Core.Bool.{not}
+use mathlib.Core.List.{List}
+use Prim.Native.Nat.{ℕ}
+use lib.Dec.{eqb}
+use lib.Ieee.{Float}
+use lib.ListN.{length}
+use Rattle.ground.specs.Choice.{pick}
+use Rattle.ground.specs.Paper.{Paper, accepted, refused, refusedWith}
+use Rattle.packet.specs.Meaning.{FoundValues, payloadMeans, payloadStart}
+use Rattle.pages.specs.declared.Window.{Window}
+use Rattle.histogram.specs.Meaning.{Value, done, new, again}
+use Rattle.rate.specs.Meaning.{ReadingValues}
+use Rattle.rate.specs.declared.record.Reading.{Reading}
+use Rattle.rate.specs.declared.record.Reading.the-variants.{Exact, Between}
+
+-- "Each returns its number, and nothing else unless said above": 0 and the values where accepted; the number, and what the places held, where refused
+unfoldable pub told : {A : Type 0} → Paper A → A → ℕ × A
+told (accepted values) held = (0, values)
+told (refused n) held = (n, held)
+told (refusedWith n x) held = (n, held)
+
+-- "it refuses by 20 with skipped equal to the capture's length": the bytes skipped come with a refusal that carries them
+unfoldable pub toldFound : Paper FoundValues → FoundValues → ℕ × FoundValues
+toldFound (accepted values) held = (0, values)
+toldFound (refused n) held = (n, held)
+toldFound (refusedWith n x) held = (n, record { place = held .place; skipped = x })
+
+-- "its data as a part of the caller's capture": where the part starts, and its bytes
+pub record Part : Type 0 where
+  pub start : ℕ
+  pub length : ℕ
+
+-- an empty part is told as 0 and 0
+abbrev pub partOf : List ℕ → ℕ → Part
+partOf capture at =
+    record {
+      start = pick (eqb (length (payloadMeans capture at)) 0) 0 (payloadStart capture at);
+      length = length (payloadMeans capture at);
+    }
+
+-- "either one exact count or a band of two counts": the low and the high edge, 1 where they are one exact count, and the next position
+pub record Edges : Type 0 where
+  pub low : Float
+  pub high : Float
+  pub exact : ℕ
+  pub next : ℕ
+
+-- the edges of a reading
+abbrev pub edgesOf : Reading → ℕ → Edges
+edgesOf (Exact count) next = record { low = count; high = count; exact = 1; next = next }
+edgesOf (Between low high) next = record { low = low; high = high; exact = 0; next = next }
+
+-- the paper of a reading's answer, by its edges
+abbrev pub edgesPaper : Paper ReadingValues → Paper Edges
+edgesPaper (accepted v) = accepted (edgesOf (v .reading) (v .next))
+edgesPaper (refused n) = refused n
+edgesPaper (refusedWith n x) = refusedWith n x
+
+-- what an ask's lent places take: its sum, and 1 where it was answered again
+pub record AskValues : Type 0 where
+  pub sum : ℕ
+  pub again : ℕ
+
+-- what they hold after an ask: written where it is accepted, what they held where it is refused
+abbrev pub toldAsk : Paper Value → AskValues → AskValues
+toldAsk (accepted done) held = held
+toldAsk (accepted (new sum)) held = record { sum = sum; again = 0 }
+toldAsk (accepted (again sum)) held = record { sum = sum; again = 1 }
+toldAsk (refused n) held = held
+toldAsk (refusedWith n x) held = held
+
+-- a window by its numbers: clear 0 keeps, any other number clears
+abbrev pub windowOf : ℕ → ℕ → ℕ → ℕ → ℕ → Window
+windowOf address xsize ysize ystride clear =
+    record { address = address; xsize = xsize; ysize = ysize; ystride = ystride; clear = not (eqb clear 0) }

@@ -1,0 +1,114 @@
+-- What each exported call promises of its outcome o: the number that it answers with what the lent places hold, and the memory that it leaves. One equation
+-- over the library's own definitions; held is what the lent places held.
+-- Assumes nothing.
+use mathlib.Core.Path.{_≡_}
+use mathlib.Core.List.{List}
+use Prim.Native.Nat.{ℕ, _^_}
+use lib.IntN.{ℤ}
+use Rattle.ground.specs.Paper.{Paper, numberOf}
+use Rattle.packet.specs.Meaning.{FoundValues, HeaderValues, findMeans, headerMeans, writeMeans, writeLeaves}
+use Rattle.message.specs.Meaning.{ReadValues, readMeans, writeMeans as messageMeans, writeLeaves as messageLeaves}
+use Rattle.code.specs.Meaning.{Taken, packMeans, packLeaves, unpackMeans}
+use Rattle.rate.specs.Meaning.{RateValues, readingMeans, rateMeans}
+use Rattle.format.specs.Meaning.{floatValue, Takes, int24Means}
+use Rattle.cadence.specs.Meaning.{Begins, Ends, secondsMeans}
+use Rattle.pages.specs.declared.Window.{Window}
+use Rattle.histogram.specs.Meaning.{Outcome, askMeans, flipMeans, incrementMeans, openMeans}
+use Rattle.plavotesk.specs.Meaning.{told, toldFound, Part, partOf, Edges, edgesPaper, AskValues, toldAsk}
+
+-- finding: the first packet's place, and the bytes skipped before it, with 20 as well
+abbrev pub PacketFindPromise : List ℕ → FoundValues → ℕ × FoundValues → Type 0
+PacketFindPromise capture held o = o ≡ toldFound (findMeans capture) held
+
+-- a header: the APID, and the bytes of data
+abbrev pub PacketHeaderPromise : List ℕ → ℕ → HeaderValues → ℕ × HeaderValues → Type 0
+PacketHeaderPromise capture place held o = o ≡ told (headerMeans capture place) held
+
+-- the data of a packet: where it starts, and its bytes
+abbrev pub PacketPayloadPromise : List ℕ → ℕ → Part → Type 0
+PacketPayloadPromise capture place o = o ≡ partOf capture place
+
+-- writing a packet: the bytes written; the buffer
+abbrev pub PacketWritePromise : List ℕ → ℕ → List ℕ → ℕ → (ℕ × ℕ) × List ℕ → Type 0
+PacketWritePromise buffer apid payload held o = o ≡ (told (writeMeans buffer payload) held, writeLeaves buffer apid payload)
+
+-- reading a message: the address, the size tag, the value, the bytes used
+abbrev pub MessageReadPromise : List ℕ → ReadValues → ℕ × ReadValues → Type 0
+MessageReadPromise bytes held o = o ≡ told (readMeans bytes) held
+
+-- writing a message: the bytes written; the buffer
+abbrev pub MessageWritePromise : List ℕ → ℕ → ℕ → ℕ → ℕ → (ℕ × ℕ) × List ℕ → Type 0
+MessageWritePromise buffer address tag value held o = o ≡ (told (messageMeans buffer address tag value) held, messageLeaves buffer address tag value)
+
+-- writing a code: the next position; the buffer
+abbrev pub CodePackPromise : List ℕ → ℕ → ℤ → ℕ → ℕ → (ℕ × ℕ) × List ℕ → Type 0
+CodePackPromise buffer at value drop held o = o ≡ (told (packMeans buffer at value drop) held, packLeaves buffer at value drop)
+
+-- reading a code: the number, and the next position
+abbrev pub CodeUnpackPromise : List ℕ → ℕ → ℕ → Taken → ℕ × Taken → Type 0
+CodeUnpackPromise bytes at drop held o = o ≡ told (unpackMeans bytes at drop) held
+
+-- reading counts: the edges, whether they are one exact count, and the next position
+abbrev pub ReadingPromise : List ℕ → ℕ → ℕ → Edges → ℕ × Edges → Type 0
+ReadingPromise bytes at drop held o = o ≡ told (edgesPaper (readingMeans bytes at drop)) held
+
+-- forming a rate: both quotients, the seconds, and the next position
+abbrev pub RatePromise : List ℕ → ℕ → ℕ → ℕ → RateValues → ℕ × RateValues → Type 0
+RatePromise bytes at drop level held o = o ≡ told (rateMeans bytes at drop level) held
+
+-- a call by a sentence of document 01 that is no equation: an answer of which the sentence holds, and what is told of it
+pub record Sentence (Holds : Paper ℕ → Type 0) (held : ℕ) (o : ℕ × ℕ) : Type 0 where
+  pub answer : Paper ℕ
+  pub holds : Holds answer
+  pub outcome : o ≡ told answer held
+
+-- the 16-bit float of a count
+abbrev pub Float16CodePromise : ℕ → ℕ → ℕ × ℕ → Type 0
+Float16CodePromise count held o = Sentence (Takes (floatValue 12) (2 ^ 27) count) held o
+
+-- the 8-bit float of a count
+abbrev pub Float8CodePromise : ℕ → ℕ → ℕ × ℕ → Type 0
+Float8CodePromise count held o = Sentence (Takes (floatValue 3) (2 ^ 34) count) held o
+
+-- the 24-bit integer of a count, and the count of a 24-bit integer
+abbrev pub Int24Promise : ℕ → ℕ → ℕ × ℕ → Type 0
+Int24Promise given held o = o ≡ told (int24Means given) held
+
+-- a level's seconds
+abbrev pub LevelSecondsPromise : ℕ → ℕ → ℕ × ℕ → Type 0
+LevelSecondsPromise level held o = o ≡ told (secondsMeans level) held
+
+-- the level that begins in a second
+abbrev pub SecondBeginningPromise : ℕ → ℕ → ℕ × ℕ → Type 0
+SecondBeginningPromise second held o = Sentence (Begins second) held o
+
+-- the level that ends with a second
+abbrev pub SecondEndingPromise : ℕ → ℕ → ℕ × ℕ → Type 0
+SecondEndingPromise second held o = Sentence (Ends second) held o
+
+-- what a histogram call leaves: its number, the memory, the state's words
+pub record Left : Type 0 where
+  pub number : ℕ
+  pub memory : List ℕ
+  pub state : List ℕ
+
+-- the same of what the library's call means
+abbrev pub leftBy : Outcome → Left
+leftBy o = record { number = numberOf (o .answer); memory = o .memory; state = o .state }
+
+-- opening: memory and state
+abbrev pub HistogramOpenPromise : List ℕ → List ℕ → Left → Type 0
+HistogramOpenPromise memory state o = o ≡ leftBy (openMeans memory state)
+
+-- an increment: the memory; the state is lent unchangeable
+abbrev pub HistogramIncrementPromise : List ℕ → List ℕ → ℕ → Left → Type 0
+HistogramIncrementPromise memory state address o = o ≡ leftBy (incrementMeans memory state address)
+
+-- a flip: the state; the memory is lent unchangeable
+abbrev pub HistogramFlipPromise : List ℕ → List ℕ → Left → Type 0
+HistogramFlipPromise memory state o = o ≡ leftBy (flipMeans memory state)
+
+-- an ask: the sum, and whether it was answered again; memory and state
+abbrev pub HistogramAskPromise : List ℕ → List ℕ → ℕ → Window → AskValues → Left × AskValues → Type 0
+HistogramAskPromise memory state number window held o =
+    o ≡ (leftBy (askMeans memory state number window), toldAsk (askMeans memory state number window .answer) held)
