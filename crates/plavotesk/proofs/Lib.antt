@@ -1,2 +1,3 @@
+mod Leaving
 mod Parts
 mod Telling

@@ -1,3 +1,4 @@
 pub mod Meaning
 pub mod Promise
 pub mod OneOutcome
+pub mod Session

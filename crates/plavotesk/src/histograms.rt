@@ -3,7 +3,7 @@ use histogram::AskAnswer;
 use histogram::Window;
 ghost use mathlib.Core.Path.{_≡_};
 ghost use Rattle.histogram.specs.Answers.{askPaper};
-ghost use Rattle.plavotesk.specs.Meaning.{AskValues, toldAsk, windowOf};
+ghost use Rattle.plavotesk.specs.Meaning.{toldAsk, windowOf};
 ghost use Rattle.plavotesk.specs.Promise.{HistogramOpenPromise, HistogramIncrementPromise, HistogramFlipPromise, HistogramAskPromise};
 
 // Takes 2N words, sets them all to 0, and makes the state of an opened memory in lent words; 13.
@@ -70,7 +70,8 @@ fn window(address: u32, xsize: u8, ysize: u8, ystride: u16, clear: u8) -> Window
 
 // Writes an accepted ask's sum, and whether it was answered again; nothing where it was refused.
 fn hand_over(answer: AskAnswer, sum: &mut u64, again: &mut u8)
-    ensures { λ _. ⌜ _≡_ {A = AskValues} (record { sum = now (sum .exit); again = now (again .exit) }) (toldAsk (askPaper answer) (record { sum = now (sum .entry); again = now (again .entry) })) ⌝ }
+    ensures { λ _. ⌜ now (sum .exit) ≡ toldAsk (askPaper answer) (record { sum = now (sum .entry); again = now (again .entry) }) .sum ⌝ }
+    ensures { λ _. ⌜ now (again .exit) ≡ toldAsk (askPaper answer) (record { sum = now (sum .entry); again = now (again .entry) }) .again ⌝ }
 {
     match answer {
         AskAnswer::New { sum: total } => {
