@@ -362,6 +362,19 @@ fn asks() {
         || (0..1000).for_each(|i| assert_eq!(board.increment(black_box(i * 200)), 0)),
         || (0..1000).for_each(|i| histogram.increment(black_box(i * 200)).unwrap()),
     );
+    row(
+        "1,000 flips",
+        || (0..1000).for_each(|_| black_box(&mut board).flip()),
+        || (0..1000).for_each(|_| black_box(&mut histogram).flip()),
+    );
+    let four = window(2, 1, 1, 3, true);
+    board.ask(1, four).unwrap();
+    histogram.ask(1, four).unwrap();
+    row(
+        "1,000 repeats of an ask",
+        || (0..1000).for_each(|_| assert!(board.ask(black_box(1), black_box(four)).unwrap().1)),
+        || (0..1000).for_each(|_| assert!(histogram.ask(black_box(1), black_box(four)).unwrap().1)),
+    );
     row("open 524,288 words", || board.clear_all(), || histogram.clear_all());
 }
 

@@ -9,12 +9,6 @@ use Rattle.histogram.specs.States.{fits-long}
 use Rattle.histogram.proofs.ask.Statement.{statement}
 use Rattle.histogram.proofs.ask.Tie as tie
 
-fitting-requires : tie.Need-fitting-requires
-fitting-requires c κs = search needs
-
-same-length : tie.Need-same-length
-same-length c = search needs
-
 returns : tie.Need-returns
 returns c = record { outcome = asked13 _ _ _ _ (refused (c .before .fitting .ensures) (c .if1 .taken)) }
 
@@ -24,32 +18,11 @@ turn-of-requires c κs =
     let a = f .before .before .before .before .before .args in
     fits-long (length (a .memory .now)) (a .state .now) (passed (f .before .fitting .ensures) (f .if1 .left))
 
-enum-told : tie.Need-enum-told
-enum-told c = search needs
-
 new-ask-requires : tie.Need-new-ask-requires
 new-ask-requires c κs =
     let f = c .before .before .before .before .before .before in
     let a = f .before .before .before .before .before .args in
     fits-long (length (a .memory .now)) (a .state .now) (passed (f .before .fitting .ensures) (f .if1 .left))
-
-enum-known-turn : tie.Need-enum-known-turn
-enum-known-turn c = search needs
-
-again-requires : tie.Need-again-requires
-again-requires c κs = search needs
-
-enum-told-2 : tie.Need-enum-told-2
-enum-told-2 c = search needs
-
-enum-told-3 : tie.Need-enum-told-3
-enum-told-3 c = search needs
-
-same-length-2 : tie.Need-same-length-2
-same-length-2 c = search needs
-
-same-length-3 : tie.Need-same-length-3
-same-length-3 c = search needs
 
 returns-2 : tie.Need-returns-2
 returns-2 c =
@@ -61,9 +34,6 @@ returns-2 c =
     let told = n .before .before .before .enum-told in
     record { outcome = asked (a .memory .now) (a .state .now) (a .number) (a .window) fits (t .turn-of .ensures) (told .given .1) (n .new-ask .ensures) }
 
-same-length-4 : tie.Need-same-length-4
-same-length-4 c = search needs
-
 returns-3 : tie.Need-returns-3
 returns-3 c =
     let t = c .before .before .before .before in
@@ -73,9 +43,6 @@ returns-3 c =
     let last = repeated (a .memory .now) (a .state .now) (a .number) (a .window) (c .again .ensures) in
     record { outcome = asked (a .memory .now) (a .state .now) (a .number) (a .window) fits (t .turn-of .ensures) (c .before .before .turn .given .1) last }
 
-same-length-5 : tie.Need-same-length-5
-same-length-5 c = search needs
-
 returns-4 : tie.Need-returns-4
 returns-4 c =
     let t = c .before .before in
@@ -83,9 +50,6 @@ returns-4 c =
     let a = f .before .before .before .before .before .args in
     let fits = passed (f .before .fitting .ensures) (f .if1 .left) in
     record { outcome = asked (a .memory .now) (a .state .now) (a .number) (a .window) fits (t .turn-of .ensures) (c .enum-told2 .given .1) refl }
-
-same-length-6 : tie.Need-same-length-6
-same-length-6 c = search needs
 
 returns-5 : tie.Need-returns-5
 returns-5 c =
@@ -99,22 +63,22 @@ pub ask-spec : {M : Type 1} → statement M
 ask-spec =
     tie.close
     (tie.spec
-    fitting-requires
-    same-length
+    (λ c κs. search needs)
+    (λ c. search needs)
     returns
     turn-of-requires
-    enum-told
+    (λ c. search needs)
     new-ask-requires
-    enum-known-turn
-    again-requires
-    enum-told-2
-    enum-told-3
-    same-length-2
-    same-length-3
+    (λ c. search needs)
+    (λ c κs. search needs)
+    (λ c. search needs)
+    (λ c. search needs)
+    (λ c. search needs)
+    (λ c. search needs)
     returns-2
-    same-length-4
+    (λ c. search needs)
     returns-3
-    same-length-5
+    (λ c. search needs)
     returns-4
-    same-length-6
+    (λ c. search needs)
     returns-5)

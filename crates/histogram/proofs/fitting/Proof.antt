@@ -9,16 +9,10 @@ use Rattle.histogram.proofs.fitting.Tie as tie
 returns : tie.Need-returns
 returns c = let a = c .before .before .args in fits-short (a .words) (a .state .now) (c .if1 .taken)
 
-sized-requires : tie.Need-sized-requires
-sized-requires c κs = search needs
-
 returns-2 : tie.Need-returns-2
 returns-2 c =
     let a = c .before .before .before .before .args in
     fits-odd (a .words) (a .state .now) (c .before .before .if1 .left) (refused (c .before .sized .ensures .answer) (c .if2 .taken))
-
-shared-slice-read-result : tie.Need-shared-slice-read-result
-shared-slice-read-result c = search needs
 
 returns-3 : tie.Need-returns-3
 returns-3 c =
@@ -28,4 +22,4 @@ returns-3 c =
 
 pub fitting-spec : {M : Type 1} → statement M
 fitting-spec =
-    tie.close (tie.spec returns sized-requires returns-2 shared-slice-read-result returns-3)
+    tie.close (tie.spec returns (λ c κs. search needs) returns-2 (λ c. search needs) returns-3)

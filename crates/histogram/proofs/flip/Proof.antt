@@ -9,12 +9,6 @@ use Rattle.histogram.specs.States.{fits-long}
 use Rattle.histogram.proofs.flip.Statement.{statement}
 use Rattle.histogram.proofs.flip.Tie as tie
 
-fitting-requires : tie.Need-fitting-requires
-fitting-requires c κs = search needs
-
-same-length : tie.Need-same-length
-same-length c = search needs
-
 returns : tie.Need-returns
 returns c = record { outcome = flips13 _ _ (refused (c .before .fitting .ensures) (c .if1 .taken)) }
 
@@ -23,17 +17,11 @@ idle-page-requires c κs =
     let a = c .before .before .before .before .before .before .args in
     fits-long (length (a .memory .now)) (a .state .now) (passed (c .before .before .fitting .ensures) (c .before .if1 .left))
 
-flag-requires : tie.Need-flag-requires
-flag-requires c κs = search needs
-
 slice-write-state : tie.Need-slice-write-state
 slice-write-state c =
     let d = c .before .before .before in
     let a = d .before .before .before .before .before .args in
     omega (arith, fits-long (length (a .memory .now)) (a .state .now) (passed (d .before .fitting .ensures) (d .if1 .left)))
-
-same-length-2 : tie.Need-same-length-2
-same-length-2 c = search needs
 
 returns-2 : tie.Need-returns-2
 returns-2 c =
@@ -46,11 +34,11 @@ pub flip-spec : {M : Type 1} → statement M
 flip-spec =
     tie.close
     (tie.spec
-    fitting-requires
-    same-length
+    (λ c κs. search needs)
+    (λ c. search needs)
     returns
     idle-page-requires
-    flag-requires
+    (λ c κs. search needs)
     slice-write-state
-    same-length-2
+    (λ c. search needs)
     returns-2)

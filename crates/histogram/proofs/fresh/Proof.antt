@@ -23,15 +23,6 @@ abbrev μ-loop : tie.MeasureT-loop
 loop-holds : tie.Need-loop-holds Inv-loop μ-loop
 loop-holds c = (search needs, search needs, search needs, fill-none _ 0)
 
-mul-state : tie.Need-mul-state Inv-loop μ-loop
-mul-state c = search needs
-
-slice-write-state : tie.Need-slice-write-state Inv-loop μ-loop
-slice-write-state c = search needs
-
-add-i : tie.Need-add-i Inv-loop μ-loop
-add-i c = search needs
-
 loop-less : tie.Need-loop-less Inv-loop μ-loop
 loop-less c = omega arith
 
@@ -39,12 +30,6 @@ loop-again : tie.Need-loop-again Inv-loop μ-loop
 loop-again c =
     let inv = c .before .loop .inv in
     (inv .0, omega arith, simp length-set (inv .2), fill-step _ _ _ (inv .3) (omega arith))
-
-slice-write-state-2 : tie.Need-slice-write-state-2 Inv-loop μ-loop
-slice-write-state-2 c = search needs
-
-same-length : tie.Need-same-length Inv-loop μ-loop
-same-length c = search needs
 
 returns : tie.Need-returns Inv-loop μ-loop
 returns c = freshened _ _ (c .before .loop .i) _ (c .before .loop .inv .3) (omega arith)
@@ -56,11 +41,11 @@ fresh-spec =
     Inv-loop
     μ-loop
     loop-holds
-    mul-state
-    slice-write-state
-    add-i
+    (λ c. search needs)
+    (λ c. search needs)
+    (λ c. search needs)
     loop-less
     loop-again
-    slice-write-state-2
-    same-length
+    (λ c. search needs)
+    (λ c. search needs)
     returns)

@@ -8,9 +8,6 @@ use Rattle.histogram.specs.States.{fits-long}
 use Rattle.histogram.proofs.increment.Statement.{statement}
 use Rattle.histogram.proofs.increment.Tie as tie
 
-fitting-requires : tie.Need-fitting-requires
-fitting-requires c κs = search needs
-
 returns : tie.Need-returns
 returns c = record { outcome = increments13 _ _ _ (refused (c .before .fitting .ensures) (c .if1 .taken)) }
 
@@ -18,15 +15,6 @@ active-page-requires : tie.Need-active-page-requires
 active-page-requires c κs =
     let a = c .before .before .before .before .before .args in
     fits-long (length (a .memory .now)) (a .state .now) (passed (c .before .before .fitting .ensures) (c .before .if1 .left))
-
-count-requires : tie.Need-count-requires
-count-requires c κs = search needs
-
-increment-answer-requires : tie.Need-increment-answer-requires
-increment-answer-requires c κs = search needs
-
-same-length : tie.Need-same-length
-same-length c = search needs
 
 returns-2 : tie.Need-returns-2
 returns-2 c =
@@ -42,10 +30,10 @@ pub increment-spec : {M : Type 1} → statement M
 increment-spec =
     tie.close
     (tie.spec
-    fitting-requires
+    (λ c κs. search needs)
     returns
     active-page-requires
-    count-requires
-    increment-answer-requires
-    same-length
+    (λ c κs. search needs)
+    (λ c κs. search needs)
+    (λ c. search needs)
     returns-2)

@@ -7,47 +7,26 @@ use borrow.Author.Needs.{needs}
 use Rattle.histogram.proofs.keep.Statement.{statement}
 use Rattle.histogram.proofs.keep.Tie as tie
 
-slice-write-state : tie.Need-slice-write-state
-slice-write-state c = search needs
-
 slice-write-state-2 : tie.Need-slice-write-state-2
 slice-write-state-2 c = simp length-set (omega (arith, c .before .pre))
-
-cast-state : tie.Need-cast-state
-cast-state c = search needs
 
 slice-write-state-3 : tie.Need-slice-write-state-3
 slice-write-state-3 c = simp length-set (omega (arith, c .before .before .pre))
 
-cast-state-2 : tie.Need-cast-state-2
-cast-state-2 c = search needs
-
 slice-write-state-4 : tie.Need-slice-write-state-4
 slice-write-state-4 c = simp length-set (omega (arith, c .before .before .before .pre))
-
-cast-state-3 : tie.Need-cast-state-3
-cast-state-3 c = search needs
 
 slice-write-state-5 : tie.Need-slice-write-state-5
 slice-write-state-5 c = simp length-set (omega (arith, c .before .before .before .before .pre))
 
-cast-state-4 : tie.Need-cast-state-4
-cast-state-4 c = search needs
-
 slice-write-state-6 : tie.Need-slice-write-state-6
 slice-write-state-6 c = simp length-set (omega (arith, c .before .before .before .before .before .pre))
-
-flag-requires : tie.Need-flag-requires
-flag-requires c κs = search needs
 
 slice-write-state-7 : tie.Need-slice-write-state-7
 slice-write-state-7 c = simp length-set (omega (arith, c .before .before .before .before .before .before .pre))
 
 slice-write-state-8 : tie.Need-slice-write-state-8
 slice-write-state-8 c = simp length-set (omega (arith, c .before .before .before .before .before .before .pre))
-
-same-length : tie.Need-same-length
-same-length c = search needs
 
 returns : tie.Need-returns
 returns c = (refl, rw (c .flag .ensures))
@@ -56,18 +35,18 @@ pub keep-spec : {M : Type 1} → statement M
 keep-spec =
     tie.close
     (tie.spec
-    slice-write-state
+    (λ c. search needs)
     slice-write-state-2
-    cast-state
+    (λ c. search needs)
     slice-write-state-3
-    cast-state-2
+    (λ c. search needs)
     slice-write-state-4
-    cast-state-3
+    (λ c. search needs)
     slice-write-state-5
-    cast-state-4
+    (λ c. search needs)
     slice-write-state-6
-    flag-requires
+    (λ c κs. search needs)
     slice-write-state-7
     slice-write-state-8
-    same-length
+    (λ c. search needs)
     returns)

@@ -9,23 +9,8 @@ use Rattle.histogram.proofs.open.Tie as tie
 returns : tie.Need-returns
 returns c = record { outcome = open-short _ _ (c .if1 .taken) }
 
-sized-requires : tie.Need-sized-requires
-sized-requires c κs = search needs
-
 returns-2 : tie.Need-returns-2
 returns-2 c = record { outcome = open-odd _ _ (c .before .before .if1 .left) (refused (c .before .sized .ensures .answer) (c .if2 .taken)) }
-
-clear-requires : tie.Need-clear-requires
-clear-requires c κs = search needs
-
-fresh-requires : tie.Need-fresh-requires
-fresh-requires c κs = search needs
-
-same-length : tie.Need-same-length
-same-length c = search needs
-
-same-length-2 : tie.Need-same-length-2
-same-length-2 c = search needs
 
 returns-3 : tie.Need-returns-3
 returns-3 c =
@@ -38,4 +23,4 @@ returns-3 c =
 pub open-spec : {M : Type 1} → statement M
 open-spec =
     tie.close
-    (tie.spec returns sized-requires returns-2 clear-requires fresh-requires same-length same-length-2 returns-3)
+    (tie.spec returns (λ c κs. search needs) returns-2 (λ c κs. search needs) (λ c κs. search needs) (λ c. search needs) (λ c. search needs) returns-3)

@@ -6,26 +6,11 @@ use Rattle.pages.proofs.Taking.{check-says, not-taken, sound-inside, wa
 use Rattle.pages.proofs.take.Statement.{statement}
 use Rattle.pages.proofs.take.Tie as tie
 
-check-requires : tie.Need-check-requires
-check-requires c κs = search needs
-
-enum-told : tie.Need-enum-told
-enum-told c = search needs
-
 walk-rows-requires : tie.Need-walk-rows-requires
 walk-rows-requires c κs =
     let a = c .before .before .before .before .before .before .args in
     sound-inside (a .memory .now) (a .second) (a .window)
     (check-says (a .memory .now) (a .second) (a .window) (c .before .before .before .check .ensures) (c .before .enum-told .given .1))
-
-enum-told-2 : tie.Need-enum-told-2
-enum-told-2 c = search needs
-
-enum-told-3 : tie.Need-enum-told-3
-enum-told-3 c = search needs
-
-same-length : tie.Need-same-length
-same-length c = search needs
 
 returns : tie.Need-returns
 returns c =
@@ -34,17 +19,11 @@ returns c =
     (check-says (a .memory .now) (a .second) (a .window) (c .before .before .before .before .before .before .check .ensures)
     (c .before .before .before .before .enum-told .given .1)) (c .before .before .walk-rows .ensures)
 
-same-length-2 : tie.Need-same-length-2
-same-length-2 c = search needs
-
 returns-2 : tie.Need-returns-2
 returns-2 c =
     let a = c .before .before .before .before .before .args in
     not-taken (a .memory .now) (a .second) (a .window) _
     (check-says (a .memory .now) (a .second) (a .window) (c .before .before .check .ensures) (c .enum-told2 .given .1)) refl
-
-same-length-3 : tie.Need-same-length-3
-same-length-3 c = search needs
 
 returns-3 : tie.Need-returns-3
 returns-3 c =
@@ -56,14 +35,14 @@ pub take-spec : {M : Type 1} → statement M
 take-spec =
     tie.close
     (tie.spec
-    check-requires
-    enum-told
+    (λ c κs. search needs)
+    (λ c. search needs)
     walk-rows-requires
-    enum-told-2
-    enum-told-3
-    same-length
+    (λ c. search needs)
+    (λ c. search needs)
+    (λ c. search needs)
     returns
-    same-length-2
+    (λ c. search needs)
     returns-2
-    same-length-3
+    (λ c. search needs)
     returns-3)

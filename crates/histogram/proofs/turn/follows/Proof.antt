@@ -16,11 +16,8 @@ returns-2 c =
     let h : a .number < 65536 = omega arith in
     next-none (a .number) (a .last) h (c .if2 .taken)
 
-add-result : tie.Need-add-result
-add-result c = search needs
-
 returns-3 : tie.Need-returns-3
 returns-3 c = next-more _ _ (c .before .if1 .left)
 
 pub follows-spec : {M : Type 1} → statement M
-follows-spec = tie.close (tie.spec returns returns-2 add-result returns-3)
+follows-spec = tie.close (tie.spec returns returns-2 (λ c. search needs) returns-3)

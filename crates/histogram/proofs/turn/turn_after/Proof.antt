@@ -5,21 +5,6 @@ use Rattle.histogram.proofs.Turning.{turn-last, turn-other, turn-new, t
 use Rattle.histogram.proofs.turn.turn_after.Statement.{statement}
 use Rattle.histogram.proofs.turn.turn_after.Tie as tie
 
-shared-slice-read-if1 : tie.Need-shared-slice-read-if1
-shared-slice-read-if1 c = search needs
-
-same-window-requires : tie.Need-same-window-requires
-same-window-requires c κs = search needs
-
-shared-slice-read-t12 : tie.Need-shared-slice-read-t12
-shared-slice-read-t12 c = search needs
-
-shared-slice-read-follows : tie.Need-shared-slice-read-follows
-shared-slice-read-follows c = search needs
-
-follows-requires : tie.Need-follows-requires
-follows-requires c κs = search needs
-
 returns : tie.Need-returns
 returns c =
     let d = c .before .before .before in
@@ -48,11 +33,11 @@ pub turn-after-spec : {M : Type 1} → statement M
 turn-after-spec =
     tie.close
     (tie.spec
-    shared-slice-read-if1
-    same-window-requires
-    shared-slice-read-t12
-    shared-slice-read-follows
-    follows-requires
+    (λ c. search needs)
+    (λ c κs. search needs)
+    (λ c. search needs)
+    (λ c. search needs)
+    (λ c κs. search needs)
     returns
     returns-2
     returns-3

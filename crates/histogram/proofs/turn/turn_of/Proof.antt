@@ -5,12 +5,6 @@ use Rattle.histogram.proofs.Turning.{after-last, first, not-first}
 use Rattle.histogram.proofs.turn.turn_of.Statement.{statement}
 use Rattle.histogram.proofs.turn.turn_of.Tie as tie
 
-shared-slice-read-if1 : tie.Need-shared-slice-read-if1
-shared-slice-read-if1 c = search needs
-
-turn-after-requires : tie.Need-turn-after-requires
-turn-after-requires c κs = search needs
-
 returns : tie.Need-returns
 returns c =
     let a = c .before .before .before .before .args in
@@ -28,4 +22,4 @@ returns-3 c =
 
 pub turn-of-spec : {M : Type 1} → statement M
 turn-of-spec =
-    tie.close (tie.spec shared-slice-read-if1 turn-after-requires returns returns-2 returns-3)
+    tie.close (tie.spec (λ c. search needs) (λ c κs. search needs) returns returns-2 returns-3)

@@ -28,9 +28,6 @@ add-place c = omega arith
 place-requires : tie.Need-place-requires Inv-loop μ-loop
 place-requires c κs = omega arith
 
-visit-requires : tie.Need-visit-requires Inv-loop μ-loop
-visit-requires c κs = search needs
-
 add-total : tie.Need-add-total Inv-loop μ-loop
 add-total c = omega (arith, c .before .before .visit .ensures .1)
 
@@ -70,7 +67,7 @@ walk-row-spec =
     loop-holds
     add-place
     place-requires
-    visit-requires
+    (λ c κs. search needs)
     add-total
     add-column
     loop-less

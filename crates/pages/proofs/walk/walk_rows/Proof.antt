@@ -21,18 +21,6 @@ Inv-loop memory₀ page window width rows clear sum₀ row₀ memory sum row =
 abbrev μ-loop : tie.MeasureT-loop
 μ-loop memory₀ page window width rows clear sum₀ row₀ memory sum row = rows - row
 
-cast-width : tie.Need-cast-width Inv-loop μ-loop
-cast-width c = search needs
-
-add-width : tie.Need-add-width Inv-loop μ-loop
-add-width c = search needs
-
-cast-rows : tie.Need-cast-rows Inv-loop μ-loop
-cast-rows c = search needs
-
-add-rows : tie.Need-add-rows Inv-loop μ-loop
-add-rows c = search needs
-
 loop-holds : tie.Need-loop-holds Inv-loop μ-loop
 loop-holds c = (omega arith, refl, refl, omega arith)
 
@@ -85,10 +73,10 @@ walk-rows-spec =
     (tie.spec
     Inv-loop
     μ-loop
-    cast-width
-    add-width
-    cast-rows
-    add-rows
+    (λ c. search needs)
+    (λ c. search needs)
+    (λ c. search needs)
+    (λ c. search needs)
     loop-holds
     row-start-requires
     walk-row-requires
