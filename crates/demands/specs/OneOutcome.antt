@@ -42,11 +42,13 @@ pub use Rattle.tally.specs.OneOutcome.{count-one as tally-count-one, handed-one
 pub use Rattle.feed.specs.OneOutcome.{next-one, front-one, after-one, byte-one, two-one, four-one, eight-one}
 -- a state as words
 pub use Rattle.stored.specs.OneOutcome.{restore-one, store-one, restore-number-one}
--- the C interface: packets and messages
-pub use Rattle.lent_packets.specs.OneOutcome.{packet-find-one as plv-packet-find-one, packet-header-one as plv-packet-header-one, packet-payload-one as plv-packet-payload-one, packet-write-one as plv-packet-write-one, message-read-one as plv-message-read-one, message-write-one as plv-message-write-one}
+-- the C interface: packets and messages; the checksum has the promise above
+pub use Rattle.plavotesk.specs.OneOutcome.{plv-packet-find-one, plv-packet-header-one, plv-packet-payload-one, plv-packet-write-one}
+pub use Rattle.plavotesk.specs.OneOutcome.{plv-message-read-one, plv-message-write-one}
 -- the C interface: codes, readings and rates
-pub use Rattle.lent_codes.specs.OneOutcome.{code-pack-one as plv-code-pack-one, code-unpack-one as plv-code-unpack-one, reading-one as plv-reading-one, rate-one as plv-rate-one}
--- the C interface: formats and cadence; the checksum and the counts of floats have the promises above
-pub use Rattle.lent_formats.specs.OneOutcome.{float16-code-one as plv-float16-code-one, float8-code-one as plv-float8-code-one, int24-code-one as plv-int24-code-one, int24-count-one as plv-int24-count-one, level-seconds-one as plv-level-seconds-one, second-beginning-one as plv-second-beginning-one, second-ending-one as plv-second-ending-one}
+pub use Rattle.plavotesk.specs.OneOutcome.{plv-code-pack-one, plv-code-unpack-one, plv-reading-one, plv-rate-one}
+-- the C interface: formats and cadence; the counts of floats have the promises above
+pub use Rattle.plavotesk.specs.OneOutcome.{plv-float16-code-one, plv-float8-code-one, plv-int24-code-one, plv-int24-count-one}
+pub use Rattle.plavotesk.specs.OneOutcome.{plv-level-seconds-one, plv-second-beginning-one, plv-second-ending-one}
 -- the C interface: histogram memory
 pub use Rattle.lent_histogram.specs.OneOutcome.{open-one as plv-histogram-open-one, increment-one as plv-histogram-increment-one, flip-one as plv-histogram-flip-one, ask-one as plv-histogram-ask-one}
