@@ -24,8 +24,6 @@ pub use Rattle.cadence.specs.OneOutcome.{seconds-one, beginning-one, ending-one
 pub use Rattle.rate.specs.OneOutcome.{reading-one, rate-one, counted-number-one, rated-number-one, refusal-number-one}
 -- two pages of counters
 pub use Rattle.pages.specs.OneOutcome.{sized-one, clear-one, count-one, take-one}
--- whose turn it is
-pub use Rattle.turn.specs.OneOutcome.{turn-one}
 -- histogram memory
 pub use Rattle.histogram.specs.OneOutcome.{open-one, increment-one, flip-one, ask-one, open-number-one, increment-number-one, flip-number-one, ask-number-one}
 -- text put into a room
@@ -34,13 +32,13 @@ pub use Rattle.text.specs.OneOutcome.{text-one, number-one as text-number-one}
 pub use Rattle.lines.specs.OneOutcome.{fresh-one, taken-one, header-one as lines-header-one, put-answer-one, run-one}
 -- what the code program prints with
 pub use Rattle.printing.specs.OneOutcome.{header-one as printing-header-one, piece-one, last-one}
--- a state as words
-pub use Rattle.stored.specs.OneOutcome.{restore-one, store-one, restore-number-one}
--- the C interface: packets and messages
-pub use Rattle.lent_packets.specs.OneOutcome.{packet-find-one as plv-packet-find-one, packet-header-one as plv-packet-header-one, packet-payload-one as plv-packet-payload-one, packet-write-one as plv-packet-write-one, message-read-one as plv-message-read-one, message-write-one as plv-message-write-one}
+-- the C interface: packets and messages; the checksum has the promise above
+pub use Rattle.plavotesk.specs.OneOutcome.{plv-packet-find-one, plv-packet-header-one, plv-packet-payload-one, plv-packet-write-one}
+pub use Rattle.plavotesk.specs.OneOutcome.{plv-message-read-one, plv-message-write-one}
 -- the C interface: codes, readings and rates
-pub use Rattle.lent_codes.specs.OneOutcome.{code-pack-one as plv-code-pack-one, code-unpack-one as plv-code-unpack-one, reading-one as plv-reading-one, rate-one as plv-rate-one}
--- the C interface: formats and cadence; the checksum and the counts of floats have the promises above
-pub use Rattle.lent_formats.specs.OneOutcome.{float16-code-one as plv-float16-code-one, float8-code-one as plv-float8-code-one, int24-code-one as plv-int24-code-one, int24-count-one as plv-int24-count-one, level-seconds-one as plv-level-seconds-one, second-beginning-one as plv-second-beginning-one, second-ending-one as plv-second-ending-one}
+pub use Rattle.plavotesk.specs.OneOutcome.{plv-code-pack-one, plv-code-unpack-one, plv-reading-one, plv-rate-one}
+-- the C interface: formats and cadence; the counts of floats have the promises above
+pub use Rattle.plavotesk.specs.OneOutcome.{plv-float16-code-one, plv-float8-code-one, plv-int24-code-one, plv-int24-count-one}
+pub use Rattle.plavotesk.specs.OneOutcome.{plv-level-seconds-one, plv-second-beginning-one, plv-second-ending-one}
 -- the C interface: histogram memory
-pub use Rattle.lent_histogram.specs.OneOutcome.{open-one as plv-histogram-open-one, increment-one as plv-histogram-increment-one, flip-one as plv-histogram-flip-one, ask-one as plv-histogram-ask-one}
+pub use Rattle.plavotesk.specs.OneOutcome.{plv-histogram-open-one, plv-histogram-increment-one, plv-histogram-flip-one, plv-histogram-ask-one}

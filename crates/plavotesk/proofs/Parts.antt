@@ -15,7 +15,7 @@ use Rattle.plavotesk.specs.Promise.{PacketPayloadPromise}
 
 module _ (capture part : List ℕ) (at : ℕ) (e : part ≡ payloadMeans capture at) where
   -- an empty part
-  pub part-empty : length part ≡ 0 → PacketPayloadPromise capture at (record { start = 0; length = length part })
+  pub part-empty : length part ≡ 0 → PacketPayloadPromise capture at (0, length part)
   part-empty z = rw (← e, eq-eqb (length part) 0 z)
 
   -- a part that holds data was handed back
@@ -28,7 +28,7 @@ module _ (capture part : List ℕ) (at : ℕ) (e : part ≡ payloadMeans capture
       e
 
   -- it starts 8 bytes after the place
-  pub part-data : (length part ≡ 0 → ⊥) → PacketPayloadPromise capture at (record { start = at + 8; length = length part })
+  pub part-data : (length part ≡ 0 → ⊥) → PacketPayloadPromise capture at (at + 8, length part)
   unfolding payloadStart
   part-data n = rw (← e, ne-eqb (length part) 0 n, was-handed n)
 

@@ -11,34 +11,28 @@ use Rattle.ground.specs.Paper.{Paper, accepted, refused, refusedWith}
 use Rattle.packet.specs.Meaning.{FoundValues, payloadMeans, payloadStart}
 use Rattle.pages.specs.declared.Window.{Window}
 use Rattle.histogram.specs.Meaning.{Value, done, new, again}
-use Rattle.rate.specs.Meaning.{ReadingValues}
 use Rattle.rate.specs.declared.record.Reading.{Reading}
 use Rattle.rate.specs.declared.record.Reading.the-variants.{Exact, Between}
 
--- "Each returns its number, and nothing else unless said above": 0 and the values where accepted; the number, and what the places held, where refused
-unfoldable pub told : {A : Type 0} → Paper A → A → ℕ × A
-told (accepted values) held = (0, values)
-told (refused n) held = (n, held)
-told (refusedWith n x) held = (n, held)
+-- "Each returns its number, and nothing else unless said above": 0 and what the values say where accepted; the number, and what the places held, where refused
+unfoldable pub toldAs : {A X : Type 0} → (A → X) → Paper A → X → ℕ × X
+toldAs places (accepted values) held = (0, places values)
+toldAs places (refused n) held = (n, held)
+toldAs places (refusedWith n x) held = (n, held)
+
+-- the places hold the values themselves
+abbrev pub told : {A : Type 0} → Paper A → A → ℕ × A
+told {A} means held = toldAs (λ (values : A). values) means held
 
 -- "it refuses by 20 with skipped equal to the capture's length": the bytes skipped come with a refusal that carries them
-unfoldable pub toldFound : Paper FoundValues → FoundValues → ℕ × FoundValues
+abbrev pub toldFound : Paper FoundValues → FoundValues → ℕ × FoundValues
 toldFound (accepted values) held = (0, values)
 toldFound (refused n) held = (n, held)
 toldFound (refusedWith n x) held = (n, record { place = held .place; skipped = x })
 
--- "its data as a part of the caller's capture": where the part starts, and its bytes
-pub record Part : Type 0 where
-  pub start : ℕ
-  pub length : ℕ
-
--- an empty part is told as 0 and 0
-abbrev pub partOf : List ℕ → ℕ → Part
-partOf capture at =
-    record {
-      start = pick (eqb (length (payloadMeans capture at)) 0) 0 (payloadStart capture at);
-      length = length (payloadMeans capture at);
-    }
+-- "its data as a part of the caller's capture": where the part starts, and its bytes; an empty part is told as 0 and 0
+abbrev pub partOf : List ℕ → ℕ → ℕ × ℕ
+partOf capture at = (pick (eqb (length (payloadMeans capture at)) 0) 0 (payloadStart capture at), length (payloadMeans capture at))
 
 -- "either one exact count or a band of two counts": the low and the high edge, 1 where they are one exact count, and the next position
 pub record Edges : Type 0 where
@@ -51,12 +45,6 @@ pub record Edges : Type 0 where
 abbrev pub edgesOf : Reading → ℕ → Edges
 edgesOf (Exact count) next = record { low = count; high = count; exact = 1; next = next }
 edgesOf (Between low high) next = record { low = low; high = high; exact = 0; next = next }
-
--- the paper of a reading's answer, by its edges
-abbrev pub edgesPaper : Paper ReadingValues → Paper Edges
-edgesPaper (accepted v) = accepted (edgesOf (v .reading) (v .next))
-edgesPaper (refused n) = refused n
-edgesPaper (refusedWith n x) = refusedWith n x
 
 -- what an ask's lent places take: its sum, and 1 where it was answered again
 pub record AskValues : Type 0 where

@@ -62,15 +62,18 @@ plv-reading-one bytes at drop held o p = one-value
 pub plv-rate-one : (bytes : List ℕ) (at drop level : ℕ) (held : RateValues) → One (RatePromise bytes at drop level held)
 plv-rate-one bytes at drop level held o p = one-value
 
--- formats; one promise for both calls of the 24-bit integer
+-- formats
 pub plv-float16-code-one : (count held : ℕ) → One (Float16CodePromise count held)
 plv-float16-code-one count held = sentence-one (takes-one (floatValue 12) (2 ^ 27) count)
 
 pub plv-float8-code-one : (count held : ℕ) → One (Float8CodePromise count held)
 plv-float8-code-one count held = sentence-one (takes-one (floatValue 3) (2 ^ 34) count)
 
-pub plv-int24-one : (given held : ℕ) → One (Int24Promise given held)
-plv-int24-one given held o p = one-value
+pub plv-int24-code-one : (count held : ℕ) → One (Int24Promise count held)
+plv-int24-code-one count held o p = one-value
+
+pub plv-int24-count-one : (code held : ℕ) → One (Int24Promise code held)
+plv-int24-count-one code held o p = one-value
 
 -- the cadence
 pub plv-level-seconds-one : (level held : ℕ) → One (LevelSecondsPromise level held)

@@ -9,12 +9,12 @@ use Rattle.ground.specs.Paper.{Paper, numberOf}
 use Rattle.packet.specs.Meaning.{FoundValues, HeaderValues, findMeans, headerMeans, writeMeans, writeLeaves}
 use Rattle.message.specs.Meaning.{ReadValues, readMeans, writeMeans as messageMeans, writeLeaves as messageLeaves}
 use Rattle.code.specs.Meaning.{Taken, packMeans, packLeaves, unpackMeans}
-use Rattle.rate.specs.Meaning.{RateValues, readingMeans, rateMeans}
+use Rattle.rate.specs.Meaning.{ReadingValues, RateValues, readingMeans, rateMeans}
 use Rattle.format.specs.Meaning.{floatValue, Takes, int24Means}
 use Rattle.cadence.specs.Meaning.{Begins, Ends, secondsMeans}
 use Rattle.pages.specs.declared.Window.{Window}
 use Rattle.histogram.specs.Meaning.{Outcome, askMeans, flipMeans, incrementMeans, openMeans}
-use Rattle.plavotesk.specs.Meaning.{told, toldFound, Part, partOf, Edges, edgesPaper, AskValues, toldAsk}
+use Rattle.plavotesk.specs.Meaning.{toldAs, told, toldFound, partOf, Edges, edgesOf, AskValues, toldAsk}
 
 -- finding: the first packet's place, and the bytes skipped before it, with 20 as well
 abbrev pub PacketFindPromise : List ℕ → FoundValues → ℕ × FoundValues → Type 0
@@ -25,7 +25,7 @@ abbrev pub PacketHeaderPromise : List ℕ → ℕ → HeaderValues → ℕ × He
 PacketHeaderPromise capture place held o = o ≡ told (headerMeans capture place) held
 
 -- the data of a packet: where it starts, and its bytes
-abbrev pub PacketPayloadPromise : List ℕ → ℕ → Part → Type 0
+abbrev pub PacketPayloadPromise : List ℕ → ℕ → ℕ × ℕ → Type 0
 PacketPayloadPromise capture place o = o ≡ partOf capture place
 
 -- writing a packet: the bytes written; the buffer
@@ -50,7 +50,8 @@ CodeUnpackPromise bytes at drop held o = o ≡ told (unpackMeans bytes at drop) 
 
 -- reading counts: the edges, whether they are one exact count, and the next position
 abbrev pub ReadingPromise : List ℕ → ℕ → ℕ → Edges → ℕ × Edges → Type 0
-ReadingPromise bytes at drop held o = o ≡ told (edgesPaper (readingMeans bytes at drop)) held
+ReadingPromise bytes at drop held o =
+    o ≡ toldAs (λ (v : ReadingValues). edgesOf (v .reading) (v .next)) (readingMeans bytes at drop) held
 
 -- forming a rate: both quotients, the seconds, and the next position
 abbrev pub RatePromise : List ℕ → ℕ → ℕ → ℕ → RateValues → ℕ × RateValues → Type 0

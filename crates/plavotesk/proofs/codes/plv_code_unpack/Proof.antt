@@ -1,36 +1,25 @@
 -- `plv_code_unpack` meets its contract: the number and the next position where a code was read.
 -- Assumes nothing.
-use mathlib.Core.Path.{_≡_}
-use Prim.Native.Nat.{ℕ}
-use borrow.Author.Needs.{needs}
-use lib.IntN.{ℤ}
 use mir.Syntax.{w32}
 use mir.Val.{SFits}
 use mir.ValLaws.{toZ-ofZ}
-use mathlib.Core.List.{[], _∷_}
-use denote.Enum.Declared.{tagOf}
 use Rattle.code.proofs.Unpacked.{the-type}
-use Rattle.code.specs.Meaning.{Taken}
 use Rattle.code.specs.Answers.{unpackedPaper, unpackedBack, unpacked-home}
-use Rattle.plavotesk.proofs.Telling.{says, accepts, refuses}
+use Rattle.plavotesk.proofs.Telling.{needs, refl, [], _∷_, tagOf, accepts, refuses}
 use Rattle.plavotesk.proofs.codes.plv_code_unpack.Statement.{statement}
 use Rattle.plavotesk.proofs.codes.plv_code_unpack.Tie as tie
-
--- the number as 32 bits hold it is the number that was read
-whole : {w v : ℤ} {next : ℕ} {o : ℕ × Taken} → w ≡ v → _≡_ {A = ℕ × Taken} (0, record { value = v; next = next }) o
-    → _≡_ {A = ℕ × Taken} (0, record { value = w; next = next }) o
-whole e p = rw e p
 
 returns : tie.Need-returns
 returns c =
     let below = c .before .before .unpack in
-    refuses _ unpackedPaper unpackedBack unpacked-home (tagOf the-type) (1 ∷ 2 ∷ 3 ∷ 4 ∷ []) (λ _. tt) (below .result) (c .before .match .keys2) (below .ensures .answer) (c .unpacked-number .ensures)
+    refuses _ _ unpackedPaper unpackedBack unpacked-home (tagOf the-type) (1 ∷ 2 ∷ 3 ∷ 4 ∷ []) (λ _. tt) (below .result)
+    (c .before .match .keys2) (below .ensures .answer) (c .unpacked-number .ensures)
 
 returns-2 : tie.Need-returns-2
 returns-2 c =
     let fits : SFits w32 (c .before .answer .given .0 .0) = search needs in
-    whole (toZ-ofZ w32 _ fits) (accepts _ (says unpackedPaper (c .before .before .before .unpack .ensures .answer) (c .before .answer .given .1)))
+    rw (toZ-ofZ w32 (c .before .answer .given .0 .0) fits)
+    (accepts _ _ unpackedPaper (c .before .before .before .unpack .ensures .answer) (c .before .answer .given .1) refl)
 
 pub plv-code-unpack-spec : {M : Type 1} → statement M
-plv-code-unpack-spec =
-    tie.close (tie.spec (λ c κs. search needs) (λ c. search needs) (λ c κs. search needs) returns returns-2)
+plv-code-unpack-spec = tie.close (tie.spec (λ c κs. search needs) (λ c. search needs) (λ c κs. search needs) returns returns-2)
