@@ -31,7 +31,7 @@ enum plv_refusal {
     PLV_REDUNDANT_ZERO = 10,     /* redundant zero */
     PLV_RUN_TOO_LONG = 11,       /* run of ones too long */
     PLV_COUNT_TOO_LARGE = 12,    /* count too large for the format */
-    PLV_WRONG_MEMORY = 13,       /* memory length odd, outside 2 to 524,288, or not the state's 2N; state words too few, or no state's */
+    PLV_WRONG_MEMORY = 13,       /* memory length odd, outside 2 to 524,288, or not the state's 2N; state words too few */
     PLV_WRONG_ADDRESS = 14,      /* address, or a window's last cell, not under N */
     PLV_COUNTER_FULL = 15,       /* counter full */
     PLV_WORD_ABOVE_FULL = 16,    /* a visited word above 67,108,863 */

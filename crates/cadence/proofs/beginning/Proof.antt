@@ -9,11 +9,8 @@ use Rattle.cadence.proofs.beginning.Tie as tie
 returns : tie.Need-returns
 returns c = record { answer = (c .if1 .taken, refl) }
 
-highest-requires : tie.Need-highest-requires
-highest-requires c κs = search needs
-
 returns-2 : tie.Need-returns-2
 returns-2 c = record { answer = (le-of-suc-le-suc (c .before .if1 .left), c .highest .ensures) }
 
 pub beginning-spec : {M : Type 1} → statement M
-beginning-spec = tie.close (tie.spec returns highest-requires returns-2)
+beginning-spec = tie.close (tie.spec returns (λ c κs. search needs) returns-2)

@@ -9,14 +9,8 @@ use Rattle.cadence.proofs.ending.Tie as tie
 returns : tie.Need-returns
 returns c = record { answer = (c .if1 .taken, refl) }
 
-add-highest : tie.Need-add-highest
-add-highest c = search needs
-
-highest-requires : tie.Need-highest-requires
-highest-requires c κs = search needs
-
 returns-2 : tie.Need-returns-2
 returns-2 c = record { answer = (le-of-suc-le-suc (c .before .if1 .left), c .highest .ensures) }
 
 pub ending-spec : {M : Type 1} → statement M
-ending-spec = tie.close (tie.spec returns add-highest highest-requires returns-2)
+ending-spec = tie.close (tie.spec returns (λ c. search needs) (λ c κs. search needs) returns-2)

@@ -6,9 +6,6 @@ use Rattle.code.specs.Positions.{length-counted}
 use Rattle.code.proofs.end_of.Statement.{statement}
 use Rattle.code.proofs.end_of.Tie as tie
 
-mul-result : tie.Need-mul-result
-mul-result c = search needs
-
 returns : tie.Need-returns
 returns c = omega (arith, length-counted (c .before .args .bytes .now))
 
@@ -16,4 +13,4 @@ returns-2 : tie.Need-returns-2
 returns-2 c = omega (arith, length-counted (c .before .args .bytes .now))
 
 pub end-of-spec : {M : Type 1} → statement M
-end-of-spec = tie.close (tie.spec mul-result returns returns-2)
+end-of-spec = tie.close (tie.spec (λ c. search needs) returns returns-2)

@@ -8,9 +8,6 @@ use borrow.Author.Needs.{needs}
 use Rattle.code.proofs.in_rule.Statement.{statement}
 use Rattle.code.proofs.in_rule.Tie as tie
 
-drop-taken-requires : tie.Need-drop-taken-requires
-drop-taken-requires c κs = search needs
-
 returns : tie.Need-returns
 returns c =
     let a = c .before .before .args in
@@ -22,4 +19,4 @@ returns-2 c =
     ap (λ (b : Bool). b && leb (a .m) largest) (sym (sym (c .before .drop-taken .ensures) ∙ c .if1 .left))
 
 pub in-rule-spec : {M : Type 1} → statement M
-in-rule-spec = tie.close (tie.spec drop-taken-requires returns returns-2)
+in-rule-spec = tie.close (tie.spec (λ c κs. search needs) returns returns-2)

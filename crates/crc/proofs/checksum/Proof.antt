@@ -5,19 +5,13 @@ use Rattle.crc.specs.Meaning.{checksumOf}
 use Rattle.crc.proofs.checksum.Statement.{statement}
 use Rattle.crc.proofs.checksum.Tie as tie
 
-rest-requires : tie.Need-rest-requires
-rest-requires c κs = search needs
-
 returns : tie.Need-returns
 unfolding checksumOf
 returns c = record { answer = c .rest .ensures }
-
-long-requires : tie.Need-long-requires
-long-requires c κs = search needs
 
 returns-2 : tie.Need-returns-2
 unfolding checksumOf
 returns-2 c = record { answer = c .long .ensures }
 
 pub checksum-spec : {M : Type 1} → statement M
-checksum-spec = tie.close (tie.spec rest-requires returns long-requires returns-2)
+checksum-spec = tie.close (tie.spec (λ c κs. search needs) returns (λ c κs. search needs) returns-2)

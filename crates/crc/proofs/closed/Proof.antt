@@ -5,18 +5,6 @@ use borrow.Author.Needs.{needs}
 use Rattle.crc.proofs.closed.Statement.{statement}
 use Rattle.crc.proofs.closed.Tie as tie
 
-through-requires : tie.Need-through-requires
-through-requires c κs = search needs
-
-through-requires-2 : tie.Need-through-requires-2
-through-requires-2 c κs = search needs
-
-through-requires-3 : tie.Need-through-requires-3
-through-requires-3 c κs = search needs
-
-through-requires-4 : tie.Need-through-requires-4
-through-requires-4 c κs = search needs
-
 returns : tie.Need-returns
 returns c =
     let w = c .before .before .before .before .args .window in
@@ -29,4 +17,4 @@ returns c =
 pub closed-spec : {M : Type 1} → statement M
 closed-spec =
     tie.close
-    (tie.spec through-requires through-requires-2 through-requires-3 through-requires-4 returns)
+    (tie.spec (λ c κs. search needs) (λ c κs. search needs) (λ c κs. search needs) (λ c κs. search needs) returns)

@@ -5,12 +5,6 @@ use borrow.Author.Needs.{needs}
 use Rattle.crc.proofs.folded.Statement.{statement}
 use Rattle.crc.proofs.folded.Tie as tie
 
-top-requires : tie.Need-top-requires
-top-requires c κs = search needs
-
-below-top-requires : tie.Need-below-top-requires
-below-top-requires c κs = search needs
-
 returns : tie.Need-returns
 returns c =
     let a = c .before .before .before .before .before .before .args in
@@ -21,4 +15,4 @@ returns c =
     (search needs) (search needs) (top .ensures) (below .ensures)
 
 pub folded-spec : {M : Type 1} → statement M
-folded-spec = tie.close (tie.spec top-requires below-top-requires returns)
+folded-spec = tie.close (tie.spec (λ c κs. search needs) (λ c κs. search needs) returns)

@@ -5,12 +5,6 @@ use Rattle.crc.proofs.Reading.{run-done, run-last}
 use Rattle.crc.proofs.last.Statement.{statement}
 use Rattle.crc.proofs.last.Tie as tie
 
-shared-slice-read-stepped : tie.Need-shared-slice-read-stepped
-shared-slice-read-stepped c = search needs
-
-stepped-requires : tie.Need-stepped-requires
-stepped-requires c κs = search needs
-
 returns : tie.Need-returns
 returns c =
     let a = c .before .before .before .before .args in
@@ -20,4 +14,4 @@ returns-2 : tie.Need-returns-2
 returns-2 c = let a = c .before .before .args in run-done (a .register) (a .bytes .now) (a .at) (search needs)
 
 pub last-spec : {M : Type 1} → statement M
-last-spec = tie.close (tie.spec shared-slice-read-stepped stepped-requires returns returns-2)
+last-spec = tie.close (tie.spec (λ c. search needs) (λ c κs. search needs) returns returns-2)

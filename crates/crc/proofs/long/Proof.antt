@@ -17,26 +17,8 @@ Inv-loop bytes window₀ i₀ window i =
 abbrev μ-loop : tie.MeasureT-loop
 μ-loop bytes window₀ i₀ window i = length bytes - i
 
-opened-requires : tie.Need-opened-requires Inv-loop μ-loop
-opened-requires c κs = search needs
-
 loop-holds : tie.Need-loop-holds Inv-loop μ-loop
 loop-holds c = (search needs, c .opened .ensures)
-
-sub-loop : tie.Need-sub-loop Inv-loop μ-loop
-sub-loop c = search needs
-
-word-requires : tie.Need-word-requires Inv-loop μ-loop
-word-requires c κs = search needs
-
-folded-requires : tie.Need-folded-requires Inv-loop μ-loop
-folded-requires c κs = search needs
-
-add-i : tie.Need-add-i Inv-loop μ-loop
-add-i c = search needs
-
-loop-less : tie.Need-loop-less Inv-loop μ-loop
-loop-less c = search needs
 
 loop-again : tie.Need-loop-again Inv-loop μ-loop
 loop-again c =
@@ -48,12 +30,6 @@ loop-again c =
       goes-on l (at .loop .i) (next .result) _ (w .first) (w .second) (w .third) (w .fourth) (run 0xffff l) (next .ensures) (c .folded .ensures)
           (at .loop .inv .1),
     )
-
-closed-requires : tie.Need-closed-requires Inv-loop μ-loop
-closed-requires c κs = search needs
-
-rest-requires : tie.Need-rest-requires Inv-loop μ-loop
-rest-requires c κs = search needs
 
 returns : tie.Need-returns Inv-loop μ-loop
 returns c =
@@ -67,14 +43,14 @@ long-spec =
     (tie.spec
     Inv-loop
     μ-loop
-    opened-requires
+    (λ c κs. search needs)
     loop-holds
-    sub-loop
-    word-requires
-    folded-requires
-    add-i
-    loop-less
+    (λ c. search needs)
+    (λ c κs. search needs)
+    (λ c κs. search needs)
+    (λ c. search needs)
+    (λ c. search needs)
     loop-again
-    closed-requires
-    rest-requires
+    (λ c κs. search needs)
+    (λ c κs. search needs)
     returns)

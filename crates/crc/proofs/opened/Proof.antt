@@ -5,21 +5,6 @@ use borrow.Author.Needs.{needs}
 use Rattle.crc.proofs.opened.Statement.{statement}
 use Rattle.crc.proofs.opened.Tie as tie
 
-word-requires : tie.Need-word-requires
-word-requires c κs = search needs
-
-started-requires : tie.Need-started-requires
-started-requires c κs = search needs
-
-word-requires-2 : tie.Need-word-requires-2
-word-requires-2 c κs = search needs
-
-word-requires-3 : tie.Need-word-requires-3
-word-requires-3 c κs = search needs
-
-word-requires-4 : tie.Need-word-requires-4
-word-requires-4 c κs = search needs
-
 returns : tie.Need-returns
 returns c =
     let a = c .before .before .before .before .before .before .args in
@@ -34,9 +19,9 @@ pub opened-spec : {M : Type 1} → statement M
 opened-spec =
     tie.close
     (tie.spec
-    word-requires
-    started-requires
-    word-requires-2
-    word-requires-3
-    word-requires-4
+    (λ c κs. search needs)
+    (λ c κs. search needs)
+    (λ c κs. search needs)
+    (λ c κs. search needs)
+    (λ c κs. search needs)
     returns)

@@ -16,23 +16,8 @@ Inv-loop bytes at register kept₀ i₀ kept i = (i ≤ length bytes) × (kept <
 abbrev μ-loop : tie.MeasureT-loop
 μ-loop bytes at register kept₀ i₀ kept i = length bytes - i
 
-loop-holds : tie.Need-loop-holds Inv-loop μ-loop
-loop-holds c = search needs
-
-sub-loop : tie.Need-sub-loop Inv-loop μ-loop
-sub-loop c = search needs
-
-pair-requires : tie.Need-pair-requires Inv-loop μ-loop
-pair-requires c κs = search needs
-
 joined-requires : tie.Need-joined-requires Inv-loop μ-loop
 joined-requires c κs = c .pair .ensures .small
-
-add-i : tie.Need-add-i Inv-loop μ-loop
-add-i c = search needs
-
-loop-less : tie.Need-loop-less Inv-loop μ-loop
-loop-less c = search needs
 
 loop-again : tie.Need-loop-again Inv-loop μ-loop
 loop-again c =
@@ -44,9 +29,6 @@ loop-again c =
       two-on l (at .loop .i) (two .result) (at .loop .kept) _ _ (two .ensures) (at .loop .inv .1) (c .joined .ensures) (at .loop .inv .2),
     )
 
-last-requires : tie.Need-last-requires Inv-loop μ-loop
-last-requires c κs = search needs
-
 returns : tie.Need-returns Inv-loop μ-loop
 returns c = c .last .ensures ∙ c .before .before .loop .inv .2
 
@@ -56,12 +38,12 @@ rest-spec =
     (tie.spec
     Inv-loop
     μ-loop
-    loop-holds
-    sub-loop
-    pair-requires
+    (λ c. search needs)
+    (λ c. search needs)
+    (λ c κs. search needs)
     joined-requires
-    add-i
-    loop-less
+    (λ c. search needs)
+    (λ c. search needs)
     loop-again
-    last-requires
+    (λ c κs. search needs)
     returns)

@@ -6,18 +6,6 @@ use borrow.Author.Needs.{needs}
 use Rattle.crc.proofs.shifted.Statement.{statement}
 use Rattle.crc.proofs.shifted.Tie as tie
 
-carry-requires : tie.Need-carry-requires
-carry-requires c κs = search needs
-
-carry-requires-2 : tie.Need-carry-requires-2
-carry-requires-2 c κs = search needs
-
-carry-requires-3 : tie.Need-carry-requires-3
-carry-requires-3 c κs = search needs
-
-spread-requires : tie.Need-spread-requires
-spread-requires c κs = search needs
-
 returns : tie.Need-returns
 returns c =
     let first = c .before .before .before .carry in
@@ -29,4 +17,4 @@ returns c =
 
 pub shifted-spec : {M : Type 1} → statement M
 shifted-spec =
-    tie.close (tie.spec carry-requires carry-requires-2 carry-requires-3 spread-requires returns)
+    tie.close (tie.spec (λ c κs. search needs) (λ c κs. search needs) (λ c κs. search needs) (λ c κs. search needs) returns)

@@ -9,15 +9,6 @@ use borrow.Author.Needs.{needs}
 use Rattle.crc.proofs.stepped.Statement.{statement}
 use Rattle.crc.proofs.stepped.Tie as tie
 
-upper-requires : tie.Need-upper-requires
-upper-requires c κs = search needs
-
-shifted-requires : tie.Need-shifted-requires
-shifted-requires c κs = search needs
-
-mul-result : tie.Need-mul-result
-mul-result c = search needs
-
 returns : tie.Need-returns
 returns c =
     let a = c .before .before .args in
@@ -26,4 +17,4 @@ returns c =
     ∙ sym (step-by-sixteen (a .register) (a .byte) (search needs) (search needs))
 
 pub stepped-spec : {M : Type 1} → statement M
-stepped-spec = tie.close (tie.spec upper-requires shifted-requires mul-result returns)
+stepped-spec = tie.close (tie.spec (λ c κs. search needs) (λ c κs. search needs) (λ c. search needs) returns)

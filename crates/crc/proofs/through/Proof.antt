@@ -5,18 +5,6 @@ use borrow.Author.Needs.{needs}
 use Rattle.crc.proofs.through.Statement.{statement}
 use Rattle.crc.proofs.through.Tie as tie
 
-high-requires : tie.Need-high-requires
-high-requires c κs = search needs
-
-shifted-requires : tie.Need-shifted-requires
-shifted-requires c κs = search needs
-
-low-requires : tie.Need-low-requires
-low-requires c κs = search needs
-
-shifted-requires-2 : tie.Need-shifted-requires-2
-shifted-requires-2 c κs = search needs
-
 returns : tie.Need-returns
 returns c =
     let a = c .before .before .before .before .args in
@@ -28,4 +16,4 @@ returns c =
 
 pub through-spec : {M : Type 1} → statement M
 through-spec =
-    tie.close (tie.spec high-requires shifted-requires low-requires shifted-requires-2 returns)
+    tie.close (tie.spec (λ c κs. search needs) (λ c κs. search needs) (λ c κs. search needs) (λ c κs. search needs) returns)

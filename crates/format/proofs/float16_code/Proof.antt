@@ -11,18 +11,6 @@ use borrow.Author.Needs.{needs}
 use Rattle.format.proofs.float16_code.Statement.{statement}
 use Rattle.format.proofs.float16_code.Tie as tie
 
-returns : tie.Need-returns
-returns c = search needs
-
-halvings-requires : tie.Need-halvings-requires
-halvings-requires c κs = search needs
-
-mul-code : tie.Need-mul-code
-mul-code c = search needs
-
-halved-requires : tie.Need-halved-requires
-halved-requires c κs = search needs
-
 -- the sum is the code that the count takes
 taken : (c : tie.After-halved) → Takes (floatValue 12) (2 ^ 27) (c .before .before .before .args .count) (accepted (c .before .halvings .result * 2 ^ 12 + c .halved .result))
 taken c = took 12 (2 ^ 27) (lit< tt) (lit≤ tt) (c .before .before .if1 .left) (c .before .halvings .ensures .0) (c .halved .ensures)
@@ -39,4 +27,4 @@ returns-2 c = record { answer = taken c }
 pub float16-code-spec : {M : Type 1} → statement M
 float16-code-spec =
     tie.close
-    (tie.spec returns halvings-requires mul-code halved-requires add-code cast-t7 returns-2)
+    (tie.spec (λ c. search needs) (λ c κs. search needs) (λ c. search needs) (λ c κs. search needs) add-code cast-t7 returns-2)

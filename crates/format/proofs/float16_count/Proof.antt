@@ -9,18 +9,9 @@ use Rattle.format.proofs.float16_count.Tie as tie
 returns : tie.Need-returns
 returns c = record { answer = without 12 (c .before .args .code) (c .if1 .taken) }
 
-add-doubled : tie.Need-add-doubled
-add-doubled c = search needs
-
-sub-doubled : tie.Need-sub-doubled
-sub-doubled c = search needs
-
-doubled-requires : tie.Need-doubled-requires
-doubled-requires c κs = search needs
-
 returns-2 : tie.Need-returns-2
 returns-2 c = record { answer = c .doubled .ensures ∙ raised 12 (c .before .before .args .code) (c .before .if1 .left) }
 
 pub float16-count-spec : {M : Type 1} → statement M
 float16-count-spec =
-    tie.close (tie.spec returns add-doubled sub-doubled doubled-requires returns-2)
+    tie.close (tie.spec returns (λ c. search needs) (λ c. search needs) (λ c κs. search needs) returns-2)

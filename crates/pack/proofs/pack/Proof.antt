@@ -14,30 +14,12 @@ use borrow.Author.Needs.{needs}
 use Rattle.pack.proofs.pack.Statement.{statement}
 use Rattle.pack.proofs.pack.Tie as tie
 
-magnitude-requires : tie.Need-magnitude-requires
-magnitude-requires c κs = search needs
-
-in-rule-requires : tie.Need-in-rule-requires
-in-rule-requires c κs = search needs
-
-wide-requires : tie.Need-wide-requires
-wide-requires c κs = search needs
-
-sign-requires : tie.Need-sign-requires
-sign-requires c κs = search needs
-
 code-requires : tie.Need-code-requires
 code-requires c κs =
     let a = c .before .before .before .before .before .before .args in
     let t = both-hold {a = dropTaken (a .drop)} (sym (c .before .before .before .in-rule .ensures) ∙ c .before .before .if1 .taken) in
     let small = leb-true (c .before .before .before .before .magnitude .result) largest (t .1) in
     (subst Drop (sym (c .before .wide .ensures)) (drop-of (a .drop) (t .0)), c .sign .ensures .bit, omega arith)
-
-place-requires : tie.Need-place-requires
-place-requires c κs = search needs
-
-same-length : tie.Need-same-length
-same-length c = search needs
 
 returns : tie.Need-returns
 returns c =
@@ -58,12 +40,12 @@ pub pack-spec : {M : Type 1} → statement M
 pack-spec =
     tie.close
     (tie.spec
-    magnitude-requires
-    in-rule-requires
-    wide-requires
-    sign-requires
+    (λ c κs. search needs)
+    (λ c κs. search needs)
+    (λ c κs. search needs)
+    (λ c κs. search needs)
     code-requires
-    place-requires
-    same-length
+    (λ c κs. search needs)
+    (λ c. search needs)
     returns
     returns-2)

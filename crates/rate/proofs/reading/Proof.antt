@@ -6,24 +6,12 @@ use Rattle.rate.proofs.Numbers.{refusal-read, negative-read, natural-de
 use Rattle.rate.proofs.reading.Statement.{statement}
 use Rattle.rate.proofs.reading.Tie as tie
 
-unpack-requires : tie.Need-unpack-requires
-unpack-requires c κs = search needs
-
-enum-known-answer : tie.Need-enum-known-answer
-enum-known-answer c = search needs
-
-handed-requires : tie.Need-handed-requires
-handed-requires c κs = search needs
-
 returns : tie.Need-returns
 returns c =
     let a = c .before .before .before .before .args in
     record {
       answer = refusal-read (now (a .bytes)) (a .at) (a .drop) _ _ (c .before .before .unpack .ensures) (c .before .match .keys2) (c .handed .ensures);
     }
-
-sign-requires : tie.Need-sign-requires
-sign-requires c κs = search needs
 
 returns-2 : tie.Need-returns-2
 returns-2 c =
@@ -32,9 +20,6 @@ returns-2 c =
     record {
       answer = negative-read (now (a .bytes)) (a .at) (a .drop) (n .0 .0) (n .0 .1 .0) _ (c .before .before .before .before .before .unpack .ensures) (n .1) (c .before .sign .ensures) (c .if1 .taken);
     }
-
-magnitude-requires : tie.Need-magnitude-requires
-magnitude-requires c κs = search needs
 
 counts-requires : tie.Need-counts-requires
 counts-requires c κs =
@@ -54,12 +39,12 @@ pub reading-spec : {M : Type 1} → statement M
 reading-spec =
     tie.close
     (tie.spec
-    unpack-requires
-    enum-known-answer
-    handed-requires
+    (λ c κs. search needs)
+    (λ c. search needs)
+    (λ c κs. search needs)
     returns
-    sign-requires
+    (λ c κs. search needs)
     returns-2
-    magnitude-requires
+    (λ c κs. search needs)
     counts-requires
     returns-3)

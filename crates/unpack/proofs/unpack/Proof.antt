@@ -8,15 +8,6 @@ use Rattle.unpack.proofs.Parts.{unpack-is, unpack-refuses}
 use Rattle.unpack.proofs.unpack.Statement.{statement}
 use Rattle.unpack.proofs.unpack.Tie as tie
 
-drop-taken-requires : tie.Need-drop-taken-requires
-drop-taken-requires c κs = search needs
-
-end-of-requires : tie.Need-end-of-requires
-end-of-requires c κs = search needs
-
-wide-requires : tie.Need-wide-requires
-wide-requires c κs = search needs
-
 code-requires : tie.Need-code-requires
 code-requires c κs =
     let t = c .before .before .before .drop-taken in
@@ -39,4 +30,4 @@ returns-2 c =
 pub unpack-spec : {M : Type 1} → statement M
 unpack-spec =
     tie.close
-    (tie.spec drop-taken-requires end-of-requires wide-requires code-requires returns returns-2)
+    (tie.spec (λ c κs. search needs) (λ c κs. search needs) (λ c κs. search needs) code-requires returns returns-2)

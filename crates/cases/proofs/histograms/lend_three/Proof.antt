@@ -6,35 +6,17 @@ use lib.ListN.{length-take}
 use Rattle.cases.proofs.histograms.lend_three.Statement.{statement}
 use Rattle.cases.proofs.histograms.lend_three.Tie as tie
 
-slice-relend-prefix-three : tie.Need-slice-relend-prefix-three
-slice-relend-prefix-three c = search needs
-
 slice-aggregate-three : tie.Need-slice-aggregate-three
 slice-aggregate-three c = simp length-take (omega arith)
-
-three-requires : tie.Need-three-requires
-three-requires c κs = search needs
-
-same-length : tie.Need-same-length
-same-length c = search needs
-
-same-length-2 : tie.Need-same-length-2
-same-length-2 c = search needs
-
-returns : tie.Need-returns
-returns c = search needs
-
-returns-2 : tie.Need-returns-2
-returns-2 c = search needs
 
 pub lend-three-spec : {M : Type 1} → statement M
 lend-three-spec =
     tie.close
     (tie.spec
-    slice-relend-prefix-three
+    (λ c. search needs)
     slice-aggregate-three
-    three-requires
-    same-length
-    same-length-2
-    returns
-    returns-2)
+    (λ c κs. search needs)
+    (λ c. search needs)
+    (λ c. search needs)
+    (λ c. search needs)
+    (λ c. search needs))

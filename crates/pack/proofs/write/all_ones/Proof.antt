@@ -7,9 +7,6 @@ use borrow.Author.Needs.{needs}
 use Rattle.pack.proofs.write.all_ones.Statement.{statement}
 use Rattle.pack.proofs.write.all_ones.Tie as tie
 
-shl-result : tie.Need-shl-result
-shl-result c = search needs
-
 sub-result : tie.Need-sub-result
 sub-result c = shift-positive _ 64 (omega arith)
 
@@ -17,4 +14,4 @@ returns : tie.Need-returns
 returns c = ones-are _ (c .pre)
 
 pub all-ones-spec : {M : Type 1} → statement M
-all-ones-spec = tie.close (tie.spec shl-result sub-result returns)
+all-ones-spec = tie.close (tie.spec (λ c. search needs) sub-result returns)

@@ -6,19 +6,10 @@ use borrow.Author.Needs.{needs}
 use Rattle.pack.proofs.write.below.Statement.{statement}
 use Rattle.pack.proofs.write.below.Tie as tie
 
-power-requires : tie.Need-power-requires
-power-requires c κs = search needs
-
-rem-result : tie.Need-rem-result
-rem-result c = search needs
-
-shr-result : tie.Need-shr-result
-shr-result c = search needs
-
 returns : tie.Need-returns
 returns c =
     let a = c .before .args in
     ap (λ (n : ℕ). a .m % n / 2 ^ a .left) (c .power .ensures .0)
 
 pub below-spec : {M : Type 1} → statement M
-below-spec = tie.close (tie.spec power-requires rem-result shr-result returns)
+below-spec = tie.close (tie.spec (λ c κs. search needs) (λ c. search needs) (λ c. search needs) returns)

@@ -9,9 +9,6 @@ use borrow.Author.Needs.{needs}
 use Rattle.pack.proofs.write.code.Statement.{statement}
 use Rattle.pack.proofs.write.code.Tie as tie
 
-least-coded-requires : tie.Need-least-coded-requires
-least-coded-requires c κs = search needs
-
 returns : tie.Need-returns
 returns c =
     let a = c .before .before .args in
@@ -63,9 +60,6 @@ returns-3 c =
     mid-holds (a .drop) (a .sign) (a .m) _ _ _ (c .before .before .before .before .least-coded .ensures) (c .before .before .before .if1 .left) (c .before .before .if2 .left)
     (c .before .if3 .taken) (c .coded2 .ensures)
 
-big-requires : tie.Need-big-requires
-big-requires c κs = search needs
-
 returns-4 : tie.Need-returns-4
 returns-4 c =
     let a = c .before .before .before .before .before .args in
@@ -76,7 +70,7 @@ pub code-spec : {M : Type 1} → statement M
 code-spec =
     tie.close
     (tie.spec
-    least-coded-requires
+    (λ c κs. search needs)
     returns
     shr-coded
     cast-coded
@@ -89,5 +83,5 @@ code-spec =
     sub-coded-2
     coded-requires-2
     returns-3
-    big-requires
+    (λ c κs. search needs)
     returns-4)

@@ -7,9 +7,6 @@ use borrow.Author.Needs.{needs}
 use Rattle.pack.proofs.write.filled.Statement.{statement}
 use Rattle.pack.proofs.write.filled.Tie as tie
 
-kept-requires : tie.Need-kept-requires
-kept-requires c κs = search needs
-
 add-result : tie.Need-add-result
 add-result c =
     let p = c .before .pre in
@@ -25,4 +22,4 @@ returns c =
     )
 
 pub filled-spec : {M : Type 1} → statement M
-filled-spec = tie.close (tie.spec kept-requires add-result returns)
+filled-spec = tie.close (tie.spec (λ c κs. search needs) add-result returns)

@@ -5,14 +5,8 @@ use borrow.Author.Needs.{needs}
 use Rattle.pack.proofs.write.kept.Statement.{statement}
 use Rattle.pack.proofs.write.kept.Tie as tie
 
-shr-result : tie.Need-shr-result
-shr-result c = search needs
-
-shl-result : tie.Need-shl-result
-shl-result c = search needs
-
 returns : tie.Need-returns
 returns c = kept-is (c .args .byte) (c .args .room) (c .pre .0)
 
 pub kept-spec : {M : Type 1} → statement M
-kept-spec = tie.close (tie.spec shr-result shl-result returns)
+kept-spec = tie.close (tie.spec (λ c. search needs) (λ c. search needs) returns)

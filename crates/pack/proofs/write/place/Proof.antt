@@ -8,20 +8,11 @@ use borrow.Author.Needs.{needs}
 use Rattle.pack.proofs.write.place.Statement.{statement}
 use Rattle.pack.proofs.write.place.Tie as tie
 
-end-of-requires : tie.Need-end-of-requires
-end-of-requires c κs = search needs
-
-same-length : tie.Need-same-length
-same-length c = search needs
-
 returns : tie.Need-returns
 returns c =
     let a = c .before .before .before .before .args in
     let e = c .before .end-of in
     place-short (a .buffer .now) (a .at) (a .number) (a .count) (e .result) (e .ensures) (omega arith)
-
-same-length-2 : tie.Need-same-length-2
-same-length-2 c = search needs
 
 returns-2 : tie.Need-returns-2
 returns-2 c =
@@ -32,16 +23,10 @@ returns-2 c =
 add-next : tie.Need-add-next
 add-next c = omega (arith, length-counted (c .before .before .before .before .before .args .buffer .now))
 
-to-byte-end-requires : tie.Need-to-byte-end-requires
-to-byte-end-requires c κs = search needs
-
 join-requires : tie.Need-join-requires
 join-requires c κs =
     let p = c .before .before .before .before .before .before .before .pre in
     (p .0, pow-pos _, omega arith)
-
-add-put : tie.Need-add-put
-add-put c = search needs
 
 put-requires : tie.Need-put-requires
 put-requires c κs =
@@ -51,9 +36,6 @@ put-requires c κs =
       omega (arith, c .before .before .to-byte-end .ensures .0),
       c .join .ensures .1,
     )
-
-same-length-3 : tie.Need-same-length-3
-same-length-3 c = search needs
 
 returns-3 : tie.Need-returns-3
 returns-3 c =
@@ -69,15 +51,15 @@ pub place-spec : {M : Type 1} → statement M
 place-spec =
     tie.close
     (tie.spec
-    end-of-requires
-    same-length
+    (λ c κs. search needs)
+    (λ c. search needs)
     returns
-    same-length-2
+    (λ c. search needs)
     returns-2
     add-next
-    to-byte-end-requires
+    (λ c κs. search needs)
     join-requires
-    add-put
+    (λ c. search needs)
     put-requires
-    same-length-3
+    (λ c. search needs)
     returns-3)

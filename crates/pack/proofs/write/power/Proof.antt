@@ -5,11 +5,8 @@ use borrow.Author.Needs.{needs}
 use Rattle.pack.proofs.write.power.Statement.{statement}
 use Rattle.pack.proofs.write.power.Tie as tie
 
-shl-result : tie.Need-shl-result
-shl-result c = search needs
-
 returns : tie.Need-returns
 returns c = (shift-is _ 32 (c .pre), shift-positive _ 32 (c .pre))
 
 pub power-spec : {M : Type 1} → statement M
-power-spec = tie.close (tie.spec shl-result returns)
+power-spec = tie.close (tie.spec (λ c. search needs) returns)

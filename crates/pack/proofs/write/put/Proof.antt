@@ -7,18 +7,6 @@ use borrow.Author.Needs.{needs}
 use Rattle.pack.proofs.write.put.Statement.{statement}
 use Rattle.pack.proofs.write.put.Tie as tie
 
-room-at-requires : tie.Need-room-at-requires
-room-at-requires c κs = search needs
-
-sub-left : tie.Need-sub-left
-sub-left c = search needs
-
-cast-put-part : tie.Need-cast-put-part
-cast-put-part c = search needs
-
-shr-put-part : tie.Need-shr-put-part
-shr-put-part c = search needs
-
 put-part-requires : tie.Need-put-part-requires
 put-part-requires c κs =
     let s = c .before .before .before .before in
@@ -27,9 +15,6 @@ put-part-requires c κs =
       omega (arith, s .pre .0, t),
       first-lt (s .args .number) (s .args .count) (s .args .count - r .result) (8 - s .args .at % 8) (s .pre .3) (omega (arith, s .pre .2, r .ensures .0, t)),
     )
-
-add-put-bytes : tie.Need-add-put-bytes
-add-put-bytes c = search needs
 
 put-bytes-requires : tie.Need-put-bytes-requires
 put-bytes-requires c κs =
@@ -42,9 +27,6 @@ put-bytes-requires c κs =
       omega (arith, s .pre .1),
       omega (arith, s .pre .2, r .ensures .0, t),
     )
-
-same-length : tie.Need-same-length
-same-length c = search needs
 
 returns : tie.Need-returns
 returns c =
@@ -66,13 +48,13 @@ pub put-spec : {M : Type 1} → statement M
 put-spec =
     tie.close
     (tie.spec
-    room-at-requires
-    sub-left
-    cast-put-part
-    shr-put-part
+    (λ c κs. search needs)
+    (λ c. search needs)
+    (λ c. search needs)
+    (λ c. search needs)
     put-part-requires
-    add-put-bytes
+    (λ c. search needs)
     put-bytes-requires
-    same-length
+    (λ c. search needs)
     returns
     returns-2)

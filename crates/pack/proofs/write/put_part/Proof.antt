@@ -10,27 +10,15 @@ use Rattle.pack.proofs.write.put_part.Tie as tie
 slice-read-byte-wide : tie.Need-slice-read-byte-wide
 slice-read-byte-wide c = omega (arith, counted-inside (c .before .before .args .buffer .now) (c .before .before .args .at) (c .before .before .pre .0))
 
-byte-wide-requires : tie.Need-byte-wide-requires
-byte-wide-requires c κs = search needs
-
-room-at-requires : tie.Need-room-at-requires
-room-at-requires c κs = search needs
-
 filled-requires : tie.Need-filled-requires
 filled-requires c κs =
     let s = c .before .before .before .before in
     (c .before .byte-wide .ensures .1, c .room-at .ensures .2, room-holds _ _ _ (c .room-at .ensures .0) (s .pre .1))
 
-cast-buffer : tie.Need-cast-buffer
-cast-buffer c = search needs
-
 slice-write-buffer : tie.Need-slice-write-buffer
 slice-write-buffer c =
     let s = c .before .before .before .before .before in
     omega (arith, counted-inside (s .args .buffer .now) (s .args .at) (s .pre .0))
-
-same-length : tie.Need-same-length
-same-length c = search needs
 
 returns : tie.Need-returns
 returns c =
@@ -44,10 +32,10 @@ put-part-spec =
     tie.close
     (tie.spec
     slice-read-byte-wide
-    byte-wide-requires
-    room-at-requires
+    (λ c κs. search needs)
+    (λ c κs. search needs)
     filled-requires
-    cast-buffer
+    (λ c. search needs)
     slice-write-buffer
-    same-length
+    (λ c. search needs)
     returns)

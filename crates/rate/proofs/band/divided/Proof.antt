@@ -7,15 +7,6 @@ use borrow.Author.Needs.{needs}
 use Rattle.rate.proofs.band.divided.Statement.{statement}
 use Rattle.rate.proofs.band.divided.Tie as tie
 
-int-to-float-seconds : tie.Need-int-to-float-seconds
-int-to-float-seconds c = search needs
-
-enum-known-reading : tie.Need-enum-known-reading
-enum-known-reading c = search needs
-
-enum-known-reading-2 : tie.Need-enum-known-reading-2
-enum-known-reading-2 c = search needs
-
 returns : tie.Need-returns
 returns c = ap (λ (x : Reading). rateOf x (c .before .before .before .before .args .length)) (sym (c .before .reading .given .1))
 
@@ -25,4 +16,4 @@ returns-2 c = ap (λ (x : Reading). rateOf x (c .before .before .before .before 
 pub divided-spec : {M : Type 1} → statement M
 divided-spec =
     tie.close
-    (tie.spec int-to-float-seconds enum-known-reading enum-known-reading-2 returns returns-2)
+    (tie.spec (λ c. search needs) (λ c. search needs) (λ c. search needs) returns returns-2)

@@ -5,21 +5,6 @@ use borrow.Author.Needs.{needs}
 use Rattle.rate.proofs.band.error_of.Statement.{statement}
 use Rattle.rate.proofs.band.error_of.Tie as tie
 
-small-error-requires : tie.Need-small-error-requires
-small-error-requires c κs = search needs
-
-returns : tie.Need-returns
-returns c = search needs
-
-left-out-requires : tie.Need-left-out-requires
-left-out-requires c κs = search needs
-
-sub-power : tie.Need-sub-power
-sub-power c = search needs
-
-power-requires : tie.Need-power-requires
-power-requires c κs = search needs
-
 returns-2 : tie.Need-returns-2
 returns-2 c =
     let p = c .before .before .before .pre in
@@ -30,4 +15,4 @@ returns-2 c =
 pub error-of-spec : {M : Type 1} → statement M
 error-of-spec =
     tie.close
-    (tie.spec small-error-requires returns left-out-requires sub-power power-requires returns-2)
+    (tie.spec (λ c κs. search needs) (λ c. search needs) (λ c κs. search needs) (λ c. search needs) (λ c κs. search needs) returns-2)

@@ -16,9 +16,6 @@ returns c =
     let few = drop-small (p .0) in
     (mid-left _ _ (p .0) (p .1) (c .if1 .taken), omega arith, omega arith)
 
-leading-requires : tie.Need-leading-requires
-leading-requires c κs = search needs
-
 add-result-2 : tie.Need-add-result-2
 add-result-2 c = let few = drop-small (c .before .before .pre .0) in let k = c .leading .ensures in search needs
 
@@ -30,4 +27,4 @@ returns-2 c =
     (big-left _ _ _ (p .0) (c .before .if1 .left) (k .0) (k .1), omega arith, omega arith)
 
 pub left-out-spec : {M : Type 1} → statement M
-left-out-spec = tie.close (tie.spec add-result returns leading-requires add-result-2 returns-2)
+left-out-spec = tie.close (tie.spec add-result returns (λ c κs. search needs) add-result-2 returns-2)

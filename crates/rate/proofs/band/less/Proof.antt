@@ -5,9 +5,6 @@ use borrow.Author.Needs.{needs}
 use Rattle.rate.proofs.band.less.Statement.{statement}
 use Rattle.rate.proofs.band.less.Tie as tie
 
-lesser-requires : tie.Need-lesser-requires
-lesser-requires c κs = search needs
-
 sub-result : tie.Need-sub-result
 sub-result c = omega (arith, c .lesser .ensures)
 
@@ -15,4 +12,4 @@ returns : tie.Need-returns
 returns c = (omega (arith, c .lesser .ensures), omega arith)
 
 pub less-spec : {M : Type 1} → statement M
-less-spec = tie.close (tie.spec lesser-requires sub-result returns)
+less-spec = tie.close (tie.spec (λ c κs. search needs) sub-result returns)

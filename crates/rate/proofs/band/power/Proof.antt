@@ -5,11 +5,8 @@ use Rattle.rate.proofs.Errors.{shifted}
 use Rattle.rate.proofs.band.power.Statement.{statement}
 use Rattle.rate.proofs.band.power.Tie as tie
 
-shl-result : tie.Need-shl-result
-shl-result c = search needs
-
 returns : tie.Need-returns
 returns c = shifted _ (c .pre)
 
 pub power-spec : {M : Type 1} → statement M
-power-spec = tie.close (tie.spec shl-result returns)
+power-spec = tie.close (tie.spec (λ c. search needs) returns)

@@ -8,9 +8,6 @@ use Rattle.unpack.proofs.Parts.{mid-place, mid-run, small-run, parity-o
 use Rattle.unpack.proofs.read.after_run.Statement.{statement}
 use Rattle.unpack.proofs.read.after_run.Tie as tie
 
-small-requires : tie.Need-small-requires
-small-requires c κs = search needs
-
 returns : tie.Need-returns
 returns c = c .small .ensures ∙ small-run _ _ _ _ _ (c .before .if1 .taken)
 
@@ -32,15 +29,6 @@ returns-3 : tie.Need-returns-3
 returns-3 c =
     parity-out _ _ _ _ _ _ (c .before .before .before .before .pre .0) (c .if3 .taken) (c .before .before .if1 .left) (c .before .if2 .left)
 
-bit-wide-requires : tie.Need-bit-wide-requires
-bit-wide-requires c κs = search needs
-
-add-big : tie.Need-add-big
-add-big c = search needs
-
-big-requires : tie.Need-big-requires
-big-requires c κs = search needs
-
 returns-4 : tie.Need-returns-4
 returns-4 c =
     c .big .ensures
@@ -50,14 +38,14 @@ pub after-run-spec : {M : Type 1} → statement M
 after-run-spec =
     tie.close
     (tie.spec
-    small-requires
+    (λ c κs. search needs)
     returns
     sub-normal
     add-normal
     normal-requires
     returns-2
     returns-3
-    bit-wide-requires
-    add-big
-    big-requires
+    (λ c κs. search needs)
+    (λ c. search needs)
+    (λ c κs. search needs)
     returns-4)

@@ -11,26 +11,8 @@ use Rattle.unpack.proofs.Parts.{big-place, big-is}
 use Rattle.unpack.proofs.read.big.Statement.{statement}
 use Rattle.unpack.proofs.read.big.Tie as tie
 
-mul-normal : tie.Need-mul-normal
-mul-normal c = search needs
-
-add-normal : tie.Need-add-normal
-add-normal c = search needs
-
-add-normal-2 : tie.Need-add-normal-2
-add-normal-2 c = search needs
-
-shl-normal : tie.Need-shl-normal
-shl-normal c = search needs
-
-add-normal-3 : tie.Need-add-normal-3
-add-normal-3 c = search needs
-
 sub-normal : tie.Need-sub-normal
 sub-normal c = omega (arith, drop-small (c .before .pre .taken))
-
-add-normal-4 : tie.Need-add-normal-4
-add-normal-4 c = search needs
 
 add-normal-5 : tie.Need-add-normal-5
 add-normal-5 c = omega (arith, drop-small (c .before .pre .taken))
@@ -48,13 +30,13 @@ pub big-spec : {M : Type 1} → statement M
 big-spec =
     tie.close
     (tie.spec
-    mul-normal
-    add-normal
-    add-normal-2
-    shl-normal
-    add-normal-3
+    (λ c. search needs)
+    (λ c. search needs)
+    (λ c. search needs)
+    (λ c. search needs)
+    (λ c. search needs)
     sub-normal
-    add-normal-4
+    (λ c. search needs)
     add-normal-5
     normal-requires
     returns)

@@ -10,14 +10,8 @@ use Rattle.unpack.proofs.read.bit.Tie as tie
 shared-slice-read-bit-of : tie.Need-shared-slice-read-bit-of
 shared-slice-read-bit-of c = omega (arith, counted-inside (c .before .before .args .bytes .now) (c .before .before .args .at) (c .before .before .pre))
 
-cast-bit-of : tie.Need-cast-bit-of
-cast-bit-of c = search needs
-
-bit-of-requires : tie.Need-bit-of-requires
-bit-of-requires c κs = search needs
-
 returns : tie.Need-returns
 returns c = (c .bit-of .ensures .0 ∙ sym (counted-bit _ _ (c .before .before .before .pre)), c .bit-of .ensures .1)
 
 pub bit-spec : {M : Type 1} → statement M
-bit-spec = tie.close (tie.spec shared-slice-read-bit-of cast-bit-of bit-of-requires returns)
+bit-spec = tie.close (tie.spec shared-slice-read-bit-of (λ c. search needs) (λ c κs. search needs) returns)

@@ -18,9 +18,6 @@ Inv-loop bytes at width x₀ i₀ x i =
 abbrev μ-loop : tie.MeasureT-loop
 μ-loop bytes at width x₀ i₀ x i = width - i
 
-loop-holds : tie.Need-loop-holds Inv-loop μ-loop
-loop-holds c = search needs
-
 mul-x : tie.Need-mul-x Inv-loop μ-loop
 mul-x c = omega arith
 
@@ -58,7 +55,7 @@ field-spec =
     (tie.spec
     Inv-loop
     μ-loop
-    loop-holds
+    (λ c. search needs)
     mul-x
     cast-bit-wide
     add-bit-wide

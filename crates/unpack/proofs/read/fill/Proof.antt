@@ -8,22 +8,10 @@ use Rattle.code.proofs.Numbers.{shift-positive}
 use Rattle.unpack.proofs.read.fill.Statement.{statement}
 use Rattle.unpack.proofs.read.fill.Tie as tie
 
-shl-result : tie.Need-shl-result
-shl-result c = search needs
-
-sub-result : tie.Need-sub-result
-sub-result c = search needs
-
-shl-result-2 : tie.Need-shl-result-2
-shl-result-2 c = search needs
-
 sub-result-2 : tie.Need-sub-result-2
 sub-result-2 c =
     let a = c .before .args in
     omega (arith, shift-positive (a .left - 1) 32 (omega arith))
-
-add-result : tie.Need-add-result
-add-result c = search needs
 
 returns : tie.Need-returns
 returns c = fill-none _ _ (c .if1 .taken)
@@ -34,4 +22,4 @@ returns-2 c = fill-shifts _ _ (search needs) (search needs) (c .before .pre .1)
 pub fill-spec : {M : Type 1} → statement M
 fill-spec =
     tie.close
-    (tie.spec shl-result sub-result shl-result-2 sub-result-2 add-result returns returns-2)
+    (tie.spec (λ c. search needs) (λ c. search needs) (λ c. search needs) sub-result-2 (λ c. search needs) returns returns-2)

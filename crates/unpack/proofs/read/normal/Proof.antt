@@ -8,16 +8,10 @@ use Rattle.unpack.proofs.Parts.{normal-out, normal-there}
 use Rattle.unpack.proofs.read.normal.Statement.{statement}
 use Rattle.unpack.proofs.read.normal.Tie as tie
 
-sub-if1 : tie.Need-sub-if1
-sub-if1 c = search needs
-
 returns : tie.Need-returns
 returns c =
     let a = c .before .before .args in
     normal-out _ (a .at) (a .end) (a .sign) (a .lead) (a .width) (a .left) (c .before .before .pre .end-is) (c .if1 .taken)
-
-field-requires : tie.Need-field-requires
-field-requires c κs = search needs
 
 fill-requires : tie.Need-fill-requires
 fill-requires c κs =
@@ -26,9 +20,6 @@ fill-requires c κs =
 
 add-number : tie.Need-add-number
 add-number c = omega (arith, c .before .before .before .before .pre .fits (c .before .field .result) (c .before .field .ensures .1))
-
-add-number-2 : tie.Need-add-number-2
-add-number-2 c = search needs
 
 number-requires : tie.Need-number-requires
 number-requires c κs = omega (arith, c .before .before .before .before .pre .fits (c .before .field .result) (c .before .field .ensures .1))
@@ -46,11 +37,11 @@ pub normal-spec : {M : Type 1} → statement M
 normal-spec =
     tie.close
     (tie.spec
-    sub-if1
+    (λ c. search needs)
     returns
-    field-requires
+    (λ c κs. search needs)
     fill-requires
     add-number
-    add-number-2
+    (λ c. search needs)
     number-requires
     returns-2)

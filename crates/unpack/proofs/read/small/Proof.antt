@@ -13,26 +13,8 @@ use Rattle.unpack.proofs.read.small.Tie as tie
 sub-width : tie.Need-sub-width
 sub-width c = omega (arith, drop-small (c .before .pre .1))
 
-sub-if1 : tie.Need-sub-if1
-sub-if1 c = search needs
-
-cast-if1 : tie.Need-cast-if1
-cast-if1 c = search needs
-
 returns : tie.Need-returns
 returns c = small-out _ _ _ _ _ (c .before .before .pre .0) (c .if1 .taken)
-
-field-requires : tie.Need-field-requires
-field-requires c κs = search needs
-
-cast-next : tie.Need-cast-next
-cast-next c = search needs
-
-add-next : tie.Need-add-next
-add-next c = search needs
-
-small-zero-requires : tie.Need-small-zero-requires
-small-zero-requires c κs = search needs
 
 returns-2 : tie.Need-returns-2
 returns-2 c =
@@ -65,13 +47,13 @@ small-spec =
     tie.close
     (tie.spec
     sub-width
-    sub-if1
-    cast-if1
+    (λ c. search needs)
+    (λ c. search needs)
     returns
-    field-requires
-    cast-next
-    add-next
-    small-zero-requires
+    (λ c κs. search needs)
+    (λ c. search needs)
+    (λ c. search needs)
+    (λ c κs. search needs)
     returns-2
     fill-requires
     number-requires

@@ -7,14 +7,8 @@ use Rattle.unpack.proofs.Reading.{five}
 use Rattle.unpack.proofs.read.small_zero.Statement.{statement}
 use Rattle.unpack.proofs.read.small_zero.Tie as tie
 
-returns : tie.Need-returns
-returns c = search needs
-
-number-requires : tie.Need-number-requires
-number-requires c κs = search needs
-
 returns-2 : tie.Need-returns-2
 returns-2 c = ap unpackedPaper (c .number .ensures) ∙ five _ _ _ (c .before .if1 .left)
 
 pub small-zero-spec : {M : Type 1} → statement M
-small-zero-spec = tie.close (tie.spec returns number-requires returns-2)
+small-zero-spec = tie.close (tie.spec (λ c. search needs) (λ c κs. search needs) returns-2)

@@ -5,12 +5,6 @@ use Rattle.code.proofs.Numbers.{plus, minus, minus-fits}
 use Rattle.unpack.proofs.read.with_sign.Statement.{statement}
 use Rattle.unpack.proofs.read.with_sign.Tie as tie
 
-cast-result : tie.Need-cast-result
-cast-result c = search needs
-
-cast-result-2 : tie.Need-cast-result-2
-cast-result-2 c = search needs
-
 sub-result : tie.Need-sub-result
 sub-result c = minus-fits _ (c .before .pre)
 
@@ -21,4 +15,4 @@ returns-2 : tie.Need-returns-2
 returns-2 c = minus _ _ (c .if1 .left) (c .before .pre)
 
 pub with-sign-spec : {M : Type 1} → statement M
-with-sign-spec = tie.close (tie.spec cast-result cast-result-2 sub-result returns returns-2)
+with-sign-spec = tie.close (tie.spec (λ c. search needs) (λ c. search needs) sub-result returns returns-2)
