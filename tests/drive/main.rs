@@ -25,6 +25,7 @@ mod raw;
 
 mod codes;
 mod counts;
+mod forged;
 mod lent;
 mod messages;
 mod packets;
@@ -79,7 +80,7 @@ pub fn some(random: &mut Random, end: u64) -> Vec<u8> {
 fn main() {
     let given: Vec<String> = std::env::args().skip(1).collect();
     let [seed, family, cases] = &given[..] else {
-        eprintln!("usage: drive SEED packets|messages|codes|patterns|counts|scripts CASES");
+        eprintln!("usage: drive SEED packets|messages|codes|patterns|counts|forged|scripts CASES");
         std::process::exit(2);
     };
     let mut random = Random::new(seed.parse().expect("the seed is a number"));
@@ -91,6 +92,7 @@ fn main() {
         "codes" => codes::drive(&mut random, cases, &mut tally),
         "patterns" => codes::drive_patterns(&mut random, cases, &mut tally),
         "counts" => counts::drive(&mut random, cases, &mut tally),
+        "forged" => forged::drive(&mut random, cases, &mut tally),
         "scripts" => scripts::drive(&mut random, cases, &mut tally),
         _ => panic!("no family is called {family}"),
     }

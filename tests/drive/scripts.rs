@@ -128,7 +128,7 @@ fn forge(random: &mut Random, board: &mut Board) {
 }
 
 /// One memory in the hands of both programs, and the ask that was accepted last.
-struct Script {
+pub struct Script {
     proved: Board,
     plain: Board,
     words: u64,
@@ -141,12 +141,19 @@ impl Script {
     fn open(tally: &mut Tally, random: &mut Random, words: u64, room: u64) -> Script {
         let memory: Vec<u32> = (0..words).map(|_| random.next() as u32).collect();
         let state: Vec<u64> = (0..room).map(|_| random.next()).collect();
-        let mut proved = Board { memory: Lent::new(&memory, 7), state: Lent::new(&state, 8) };
-        let mut plain = proved.clone();
-        let opened = (open(&mut proved), number(open_plain(&mut plain)));
+        let mut script = Script::of(&memory, &state, (1, window(random, words / 2)));
+        let (proved, plain) = (&mut script.proved, &mut script.plain);
+        let opened = (open(proved), number(open_plain(plain)));
         tally.answered("open", opened.0);
-        tally.compare(|| format!("open {words} words, {room} words of state"), (opened.0, &proved), (opened.1, &plain));
-        Script { proved, plain, words, last: (1, window(random, words / 2)), next: 1 }
+        tally.compare(|| format!("open {words} words, {room} words of state"), (opened.0, proved), (opened.1, plain));
+        script.next = 1;
+        script
+    }
+
+    /// Memory and state as they are, whoever made them, and an ask to repeat.
+    pub fn of(memory: &[u32], state: &[u64], last: (u16, Window)) -> Script {
+        let proved = Board { memory: Lent::new(memory, 7), state: Lent::new(state, 8) };
+        Script { plain: proved.clone(), proved, words: memory.len() as u64, last, next: last.0.wrapping_add(1) }
     }
 
     /// Somebody changes what both have.
@@ -160,14 +167,14 @@ impl Script {
         }
     }
 
-    fn increment(&mut self, tally: &mut Tally, address: u32) {
+    pub fn increment(&mut self, tally: &mut Tally, address: u32) {
         let before = self.plain.clone();
         let answers = (increment(&mut self.proved, address), number(increment_plain(&mut self.plain, address)));
         tally.answered("increment", answers.0);
         tally.compare(|| format!("increment {address} of {before:?}"), (answers.0, &self.proved), (answers.1, &self.plain));
     }
 
-    fn flip(&mut self, tally: &mut Tally) {
+    pub fn flip(&mut self, tally: &mut Tally) {
         let before = self.plain.clone();
         let answers = (flip(&mut self.proved), number(flip_plain(&mut self.plain)));
         tally.answered("flip", answers.0);
@@ -176,7 +183,6 @@ impl Script {
 
     /// An ask: new, the last once more, or one that is out of turn or of another window.
     fn ask(&mut self, tally: &mut Tally, random: &mut Random) {
-        let before = self.plain.clone();
         let fresh = window(random, self.words / 2);
         let (number, window) = match random.below(12) {
             0..=5 => (self.next, fresh),
@@ -185,6 +191,12 @@ impl Script {
             10 => (self.last.0, fresh),
             _ => (self.next.wrapping_sub(random.below(4) as u16), self.last.1),
         };
+        self.ask_of(tally, random, number, window);
+    }
+
+    /// An ask of this number and window.
+    pub fn ask_of(&mut self, tally: &mut Tally, random: &mut Random, number: u16, window: Window) {
+        let before = self.plain.clone();
         let clear = if window.clear { (random.next() as u8).max(1) } else { 0 };
         let held = random.next();
         let got = ask(&mut self.proved, number, &window, clear, held);

@@ -5,7 +5,7 @@
 -- the checksum
 pub use Rattle.crc.specs.OneOutcome.{checksum-one}
 -- 16-bit words
-pub use Rattle.word.specs.OneOutcome.{lies-one, word-one, put-one}
+pub use Rattle.ground.specs.OneOutcome.{lies-one, word-one, put-one}
 -- packets
 pub use Rattle.packet.specs.OneOutcome.{find-one, header-one, payload-one, write-one as packet-write-one, found-number-one, headed-number-one, written-number-one as packet-written-number-one}
 -- messages
@@ -26,12 +26,10 @@ pub use Rattle.rate.specs.OneOutcome.{reading-one, rate-one, counted-number-one
 pub use Rattle.pages.specs.OneOutcome.{sized-one, clear-one, count-one, take-one}
 -- histogram memory
 pub use Rattle.histogram.specs.OneOutcome.{open-one, increment-one, flip-one, ask-one, open-number-one, increment-number-one, flip-number-one, ask-number-one}
--- text put into a room
-pub use Rattle.text.specs.OneOutcome.{text-one, number-one as text-number-one}
 -- the code program's lines
 pub use Rattle.lines.specs.OneOutcome.{fresh-one, taken-one, header-one as lines-header-one, put-answer-one, run-one}
 -- what the code program prints with
-pub use Rattle.printing.specs.OneOutcome.{header-one as printing-header-one, piece-one, last-one}
+pub use Rattle.lines.specs.OneOutcome.{print-header-one as printing-header-one, print-piece-one as piece-one, print-last-one as last-one}
 -- the C interface: packets and messages; the checksum has the promise above
 pub use Rattle.plavotesk.specs.OneOutcome.{plv-packet-find-one, plv-packet-header-one, plv-packet-payload-one, plv-packet-write-one}
 pub use Rattle.plavotesk.specs.OneOutcome.{plv-message-read-one, plv-message-write-one}

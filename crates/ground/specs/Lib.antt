@@ -4,3 +4,7 @@ pub mod Paper
 pub mod Words
 pub mod Bits
 pub mod Putting
+pub mod Meaning
+pub mod Promise
+pub mod OneOutcome
+pub mod Laws

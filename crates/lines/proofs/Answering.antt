@@ -20,14 +20,12 @@ use Rattle.code.specs.Meaning.{largest}
 use Rattle.code.proofs.Numbers.{minus, plus}
 use Rattle.lines.specs.declared.Line.{Line}
 use Rattle.lines.specs.declared.Ran.{Ran}
-use Rattle.lines.specs.Meaning.{header, refusedText}
+use Rattle.lines.specs.Meaning.{header, numberText, refusedText}
 use Rattle.lines.specs.Reading.{fresh, step, sound, known, answerOf}
-use Rattle.lines.specs.Running.{Stand, enough, nextLine, says, waits, goes, ranOver}
+use Rattle.lines.specs.Meaning.{enough}
+use Rattle.lines.specs.Running.{Stand, nextLine, says, waits, goes, ranOver}
 use Rattle.lines.specs.Promise.{HeaderPromise, AnswerPromise, RunPromise}
-use Rattle.text.specs.Meaning.{numberText}
-use Rattle.text.specs.Texts.{Put, put-then, put-fits}
-use Rattle.text.specs.Fitting.{put-nothing, text-stands, number-stands}
-use Rattle.text.specs.Promise.{TextPromise, NumberPromise}
+use Rattle.lines.specs.Texts.{Put, put-nothing, put-then, put-fits}
 
 -- ---- what is known of a line
 
@@ -44,7 +42,8 @@ module _ (s : Line) where
   pub sound-value : sound s ≡ true → s .value ≤ largest
   sound-value e =
       leb-true (s .value) largest
-      (both-hold {a = leb 1 (s .digits)} {b = leb (s .value) largest} (both-hold {a = not (s .other)} {b = leb 1 (s .digits) && leb (s .value) largest} e .1) .1)
+      (both-hold {a = leb 1 (s .digits)} {b = leb (s .value) largest} (both-hold {a = not (s .other)}
+      {b = leb 1 (s .digits) && leb (s .value) largest} e .1) .1)
 
   -- the number of a line with a minus
   pub known-minus : s .minus ≡ true → s .value ≤ largest → toZ w32 (ofZ w32 (pos 0 -ℤ toZ w32 (s .value))) ≡ known s
@@ -69,20 +68,18 @@ module _ (s : Line) where
   known-small {z} e h = subst (λ (n : ℕ). n ≤ largest) (sym (ap natAbs e ∙ abs-known (s .minus))) (sound-value h)
 
   -- a good line is answered by its number
-  pub answer-good : {room after : List ℕ} {at r : ℕ} (w z : ℤ) → w ≡ z → z ≡ known s → sound s ≡ true → at + enough ≤ length room
-      → NumberPromise room at w r after → Put room at (answerOf s) r after
+  pub answer-good : {room after : List ℕ} {at r : ℕ} (w z : ℤ) → w ≡ z → z ≡ known s → sound s ≡ true
+      → Put room at (numberText w) r after → Put room at (answerOf s) r after
   unfolding answerOf
-  answer-good {room} {after} {at} {r} w z e f h n p =
+  answer-good {room} {after} {at} {r} w z e f h p =
       subst (λ (l : List ℕ). Put room at l r after)
-      (ap (λ (b : Bool). pick b (numberText (known s)) refusedText) (sym h)) (number-stands w (known s) (e ∙ f) p n (known-small {z = known s} refl h))
+      (ap numberText (e ∙ f) ∙ ap (λ (b : Bool). pick b (numberText (known s)) refusedText) (sym h)) p
 
   -- any other line is answered by the refusal
-  pub answer-refused : {room after : List ℕ} {at r : ℕ} → sound s ≡ false → at + enough ≤ length room → TextPromise room at refusedText r after
-      → Put room at (answerOf s) r after
+  pub answer-refused : {room after : List ℕ} {at r : ℕ} → sound s ≡ false → Put room at refusedText r after → Put room at (answerOf s) r after
   unfolding answerOf
-  answer-refused {room} {after} {at} {r} h n p =
-      subst (λ (l : List ℕ). Put room at l r after) (ap (λ (b : Bool). pick b (numberText (known s)) refusedText) (sym h))
-      (text-stands p (omega arith))
+  answer-refused {room} {after} {at} {r} h p =
+      subst (λ (l : List ℕ). Put room at l r after) (ap (λ (b : Bool). pick b (numberText (known s)) refusedText) (sym h)) p
 
   -- ---- what a byte does
 
@@ -138,9 +135,8 @@ pub header-short : {room : List ℕ} → length room < enough → HeaderPromise 
 header-short {room} h = record { answer = rw (lt-ltb (length room) enough h); memory = rw (lt-ltb (length room) enough h) }
 
 -- a room of 80 bytes gets it
-pub header-put : {room after : List ℕ} {r : ℕ} → enough ≤ length room → TextPromise room 0 header r after → HeaderPromise room r after
-header-put {room} {after} {r} h t =
-    let p : Put room 0 header r after = text-stands t (omega arith) in
+pub header-put : {room after : List ℕ} {r : ℕ} → enough ≤ length room → Put room 0 header r after → HeaderPromise room r after
+header-put {room} {after} {r} h p =
     record {
       answer = p .place ∙ ap (λ (x : Bool). pick x 0 (length header)) (sym (le-ltb (length room) enough h));
       memory = p .memory ∙ ap (λ (x : Bool). pick x room (put room 0 header)) (sym (le-ltb (length room) enough h));

@@ -1,2 +1,5 @@
+pub mod Texts
 pub mod Bytes
 pub mod Answering
+pub mod Pieces
+pub mod Handing

@@ -1,8 +1,10 @@
 pub mod Meaning
 pub mod Cases
+pub mod Texts
 pub mod Reading
 pub mod Running
 pub mod Promise
-pub mod OneOutcome
 pub mod After
 pub mod Moving
+pub mod Printing
+pub mod OneOutcome

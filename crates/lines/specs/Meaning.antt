@@ -1,18 +1,38 @@
 -- The code program's lines: document 01, "Cases", last paragraph, in its words and order.
 -- Assumes nothing.
 use mathlib.Core.Bool.{Bool, true, false, not, _&&_}
-use mathlib.Core.List.{List, [], _∷_, _++_}
-use Prim.Native.Nat.{ℕ, _+_, _-_, _*_}
-use lib.Dec.{leb, eqb}
-use lib.IntN.{ℤ, pos, negℤ}
+use mathlib.Core.List.{List, [], _∷_, _++_, map}
+use Prim.Native.Nat.{ℕ, zero, suc, _+_, _-_, _*_, _/_, _%_}
+use lib.Dec.{leb, ltb, eqb}
+use lib.IntN.{ℤ, pos, negℤ, natAbs}
 use lib.ListN.{length, drop}
 use Rattle.ground.specs.Choice.{pick}
-use Rattle.code.specs.Meaning.{largest}
-use Rattle.text.specs.Meaning.{numberText}
+use Rattle.code.specs.Meaning.{codeOf, largest, signOf}
 
 -- "prints its header"
 abbrev pub header : List ℕ
 header = 118 ∷ 97 ∷ 108 ∷ 117 ∷ 101 ∷ 32 ∷ 100 ∷ 114 ∷ 111 ∷ 112 ∷ 48 ∷ 32 ∷ 100 ∷ 114 ∷ 111 ∷ 112 ∷ 51 ∷ 10 ∷ []
+
+-- the shortest decimal of a number of so many digits at most
+unfoldable pub shortest : ℕ → ℕ → List ℕ
+shortest zero n = []
+shortest (suc places) n = pick (ltb n 10) ((48 + n) ∷ []) (shortest places (n / 10) ++ ((48 + n % 10) ∷ []))
+
+-- "the value in shortest decimal"
+abbrev pub valueText : ℤ → List ℕ
+valueText v = pick (eqb (signOf v) 1) (45 ∷ shortest 8 (natAbs v)) (shortest 8 (natAbs v))
+
+-- a code in digits 0 and 1
+abbrev pub codeText : ℕ → ℤ → List ℕ
+codeText drop v = map (λ b. 48 + b) (codeOf drop v)
+
+-- "prints the value in shortest decimal and both codes"
+abbrev pub numberText : ℤ → List ℕ
+numberText v = valueText v ++ (32 ∷ (codeText 0 v ++ (32 ∷ (codeText 3 v ++ (10 ∷ [])))))
+
+-- the room that any line's answer fits
+abbrev pub enough : ℕ
+enough = 80
 
 -- "gives `refused 8`"
 abbrev pub refusedText : List ℕ

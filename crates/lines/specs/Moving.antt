@@ -15,7 +15,8 @@ use Rattle.lines.specs.declared.Line.{Line}
 use Rattle.lines.specs.declared.Ran.{Ran}
 use Rattle.lines.specs.Meaning.{header}
 use Rattle.lines.specs.Reading.{answerOf}
-use Rattle.lines.specs.Running.{Stand, enough, nextLine, says, waits, goes, ranOver, Fair, fair, used-within}
+use Rattle.lines.specs.Meaning.{enough}
+use Rattle.lines.specs.Running.{Stand, nextLine, says, waits, goes, ranOver, Fair, fair, used-within}
 use Rattle.lines.specs.Promise.{HeaderPromise, AnswerPromise, RunPromise}
 
 -- what is put at the front of a room lies in it

@@ -11,7 +11,8 @@ use Rattle.lines.specs.declared.Line.{Line}
 use Rattle.lines.specs.declared.Ran.{Ran}
 use Rattle.lines.specs.Meaning.{header}
 use Rattle.lines.specs.Reading.{fresh, step, answerOf}
-use Rattle.lines.specs.Running.{enough, ranOver}
+use Rattle.lines.specs.Meaning.{enough}
+use Rattle.lines.specs.Running.{ranOver}
 
 -- `fresh_line` answers a line that has no bytes
 pub record FreshPromise (r : Line) : Type 0 where

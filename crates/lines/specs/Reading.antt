@@ -14,9 +14,8 @@ use lib.ListN.{length, drop, length-append}
 use Rattle.ground.specs.Choice.{pick, pick-elim}
 use Rattle.ground.specs.Questions.{both-hold}
 use Rattle.code.specs.Meaning.{largest}
-use Rattle.text.specs.Meaning.{numberText}
 use Rattle.lines.specs.declared.Line.{Line}
-use Rattle.lines.specs.Meaning.{digit, allDigits, decimal, minus, afterMinus, numeral, number, good, refusedText, lineMeans}
+use Rattle.lines.specs.Meaning.{digit, allDigits, decimal, minus, afterMinus, numeral, number, good, refusedText, numberText, lineMeans}
 
 -- a line that has no bytes yet
 abbrev pub fresh : Line

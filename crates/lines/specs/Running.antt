@@ -10,10 +10,8 @@ use lib.Dec.{ltb, eqb, eqb·suc-zero}
 use lib.ListN.{length, drop}
 use Rattle.ground.specs.Choice.{pick, pick-elim}
 use Rattle.lines.specs.declared.Line.{Line}
-use Rattle.lines.specs.Meaning.{lineMeans, answers, printed, header}
+use Rattle.lines.specs.Meaning.{lineMeans, answers, printed, header, enough}
 use Rattle.lines.specs.Reading.{fresh, step, answerOf, Holds, step-holds, fresh-holds, answer-so}
--- the room that any line's answer fits
-pub use Rattle.text.specs.Meaning.{enough}
 
 -- what is known after a byte: a newline begins a fresh line
 abbrev pub nextLine : Line → ℕ → Line

@@ -1,17 +1,20 @@
 // A line's answer put into a room, and what one byte of input does.
+use crate::ENOUGH;
 use crate::Line;
 use crate::fresh_line;
 use crate::taken;
+use crate::text::put_number;
+use crate::text::put_text;
 use code::LARGEST;
-use text::ENOUGH;
 ghost use mathlib.Core.Path.{_≡_};
 ghost use mathlib.Core.Bool.{not};
 ghost use Prim.Native.Nat.{_+_, _≤_};
 ghost use lib.ListN.{length};
 ghost use Rattle.code.specs.Meaning.{largest};
 ghost use Rattle.lines.specs.Reading.{answerOf, known, sound};
-ghost use Rattle.lines.specs.Running.{enough, nextLine, says, waits};
-ghost use Rattle.text.specs.Texts.{Put};
+ghost use Rattle.lines.specs.Meaning.{enough};
+ghost use Rattle.lines.specs.Running.{nextLine, says, waits};
+ghost use Rattle.lines.specs.Texts.{Put};
 
 // What a line that is refused prints.
 const REFUSED: [u8; 10] = [114, 101, 102, 117, 115, 101, 100, 32, 56, 10];
@@ -57,9 +60,9 @@ pub(crate) fn put_line(room: &mut [u8], at: usize, line: Line) -> usize
     ensures { λ r. ⌜ Put (now (room .entry)) at (answerOf line) r (now (room .exit)) ⌝ }
 {
     if is_sound(line) {
-        text::put_number(room, at, number_of(line))
+        put_number(room, at, number_of(line))
     } else {
-        text::put_text(room, at, &REFUSED)
+        put_text(room, at, &REFUSED)
     }
 }
 

@@ -1,6 +1,8 @@
 // The code program's lines, on bytes: taken apart as they come, in pieces of any length, and answered.
 mod answer;
 mod byte;
+mod printing;
+mod text;
 
 ghost use mathlib.Core.Path.{_≡_};
 ghost use Rattle.lines.specs.Promise.{AnswerPromise, FreshPromise, HeaderPromise, RunPromise, TakenPromise};
@@ -9,7 +11,13 @@ use answer::next_line;
 use answer::put_line;
 use answer::put_said;
 use byte::digit_taken;
-use text::ENOUGH;
+pub use printing::print_header;
+pub use printing::print_last;
+pub use printing::print_piece;
+use text::put_text;
+
+// The room that any line's answer fits.
+pub const ENOUGH: usize = 80;
 
 // The program's header.
 const HEADER: [u8; 18] = [
@@ -84,7 +92,7 @@ pub fn put_header(room: &mut [u8]) -> usize
     if room.len() < ENOUGH {
         0
     } else {
-        text::put_text(room, 0, &HEADER)
+        put_text(room, 0, &HEADER)
     }
 }
 

@@ -5,13 +5,13 @@ ghost use mathlib.Core.Path.{_≡_};
 ghost use Rattle.ground.specs.Paper.{numberOf};
 ghost use Rattle.message.specs.Answers.{readPaper, writtenPaper};
 ghost use Rattle.message.specs.Promise.{ReadPromise, WritePromise};
+use ground::put_word;
+use ground::word_at;
 use parts::checked_front;
 use parts::data_size;
 use parts::number_at;
 use parts::put_number;
 use parts::sayable_as;
-use word::put_word;
-use word::word_at;
 
 // What reading answers: a message with its address, its size tag, its value and the bytes that it used; a wrong mark; a
 // message that is cut short; a wrong checksum.

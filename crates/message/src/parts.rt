@@ -7,7 +7,7 @@ ghost use Rattle.ground.specs.Words.{number, bytesOf, wordAt};
 ghost use Rattle.ground.specs.Putting.{put};
 ghost use Rattle.crc.specs.Meaning.{checksumOf};
 ghost use Rattle.message.specs.Meaning.{dataSize, sayable};
-use word::word_at;
+use ground::word_at;
 
 // How many data bytes a size tag stands for.
 pub(crate) fn data_size(tag: u8) -> usize

@@ -8,9 +8,9 @@ use native.Mathlib.Omega.{arith}
 use borrow.Author.Tests.{lt-ltb, le-ltb, le-leb, lt-leb, leb-true}
 use lib.ListN.{length}
 use Rattle.ground.specs.Words.{wordAt}
-use Rattle.word.specs.Meaning.{lies}
-use Rattle.word.specs.Promise.{WordPromise}
-use Rattle.word.specs.Laws.{word-there}
+use Rattle.ground.specs.Meaning.{lies}
+use Rattle.ground.specs.Promise.{WordPromise}
+use Rattle.ground.specs.Laws.{word-there}
 use Rattle.packet.specs.Meaning.{marked, checked, stands}
 
 module _ (l : List ℕ) (at : ℕ) where

@@ -9,7 +9,7 @@ use Rattle.ground.specs.Choice.{pick}
 use Rattle.ground.specs.Paper.{Paper, accepted, refused, refusedWith}
 use Rattle.ground.specs.Words.{bytesOf, wordAt}
 use Rattle.crc.specs.Meaning.{checksumOf}
-use Rattle.word.specs.Meaning.{lies}
+use Rattle.ground.specs.Meaning.{lies}
 
 -- "bytes BE BA CA FE"
 abbrev pub mark : List ℕ

@@ -7,12 +7,12 @@ ghost use Prim.Native.Nat.{_+_};
 ghost use Rattle.ground.specs.Paper.{numberOf};
 ghost use Rattle.packet.specs.Answers.{foundPaper, headedPaper, writtenPaper};
 ghost use Rattle.packet.specs.Promise.{FindPromise, HeaderPromise, PayloadPromise, WritePromise};
+use ground::put_word;
+use ground::word_at;
 use parts::copied;
 use parts::data_length;
 use parts::put_header;
 use parts::stands_at;
-use word::put_word;
-use word::word_at;
 
 // What finding answers: the first packet's place and the bytes skipped before it; no packet, with the bytes skipped; a
 // capture of more than 65,536 bytes.

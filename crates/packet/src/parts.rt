@@ -6,9 +6,9 @@ ghost use Prim.Native.Nat.{_+_, _≤_};
 ghost use lib.ListN.{length, drop};
 ghost use Rattle.packet.specs.Putting.{headOf};
 ghost use Rattle.packet.specs.Meaning.{marked, dataLength, checked, stands};
-use word::lies_in;
-use word::put_word;
-use word::word_at;
+use ground::lies_in;
+use ground::put_word;
+use ground::word_at;
 
 // Whether a packet stands at a place.
 pub(crate) fn stands_at(capture: &[u8], place: usize) -> bool

@@ -5,9 +5,9 @@ use lines::Line;
 
 fn main() {
     let mut input = [0u8; 61];
-    printing::print_header();
+    lines::print_header();
     let line = print_lines(&mut input);
-    printing::print_last(line);
+    lines::print_last(line);
 }
 
 // Prints the answer of every line that ends, and gives the line that does not. A proved loop has to end: it counts its turns
@@ -17,7 +17,7 @@ fn print_lines(input: &mut [u8]) -> Line {
     let mut turns = u64::MAX;
     let mut got = io::read_full(STDIN_FILENO, input);
     while turns > 0 && got > 0 {
-        line = printing::print_piece(line, &input[..got]);
+        line = lines::print_piece(line, &input[..got]);
         got = io::read_full(STDIN_FILENO, input);
         turns -= 1;
     }

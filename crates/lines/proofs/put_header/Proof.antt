@@ -6,7 +6,7 @@ use Rattle.lines.proofs.put_header.Statement.{statement}
 use Rattle.lines.proofs.put_header.Tie as tie
 use Rattle.lines.proofs.put_header.Reads as reads
 use Rattle.lines.proofs.put_header.Lts as lts
-use Rattle.text.proofs.put_text.Reads as put-text-reads
+use Rattle.lines.proofs.text.put_text.Reads as put-text-reads
 
 slice-aggregate-put-text : tie.Need-slice-aggregate-put-text
 slice-aggregate-put-text c = search needs

@@ -27,7 +27,19 @@ shared-slice-read-byte : tie.Need-shared-slice-read-byte Inv-loop μ-loop
 shared-slice-read-byte c = search needs
 
 put-said-requires : tie.Need-put-said-requires Inv-loop μ-loop
-put-said-requires c κs = (omega (arith, c .before .before .before .before .before .before .loop .inv .fits, c .before .before .before .before .before .before .loop .inv .long), λ e. omega (arith, newline-room (getD (c .before .before .before .before .before .before .before .before .before .args .input .now) (c .before .before .before .before .before .before .loop .used) 0) (c .before .before .before .before .before .before .loop .put) _ (c .before .before .before .may-go .ensures) (c .before .before .if1 .taken) e))
+put-said-requires c κs = (
+  omega (
+    arith,
+    c .before .before .before .before .before .before .loop .inv .fits,
+    c .before .before .before .before .before .before .loop .inv .long,
+  ),
+  λ e. omega (
+    arith,
+    newline-room (getD (c .before .before .before .before .before .before .before .before .before .args .input .now)
+        (c .before .before .before .before .before .before .loop .used) 0) (c .before .before .before .before .before .before .loop .put) _
+        (c .before .before .before .may-go .ensures) (c .before .before .if1 .taken) e,
+  ),
+)
 
 next-line-requires : tie.Need-next-line-requires Inv-loop μ-loop
 next-line-requires c κs = search needs
@@ -39,13 +51,17 @@ loop-less : tie.Need-loop-less Inv-loop μ-loop
 loop-less c = omega (arith, c .before .before .before .before .before .before .before .before .before .loop-test .taken)
 
 loop-again : tie.Need-loop-again Inv-loop μ-loop
-loop-again c = running-more (c .before .before .before .before .before .before .before .before .before .before .loop .inv) (c .before .before .before .before .before .before .before .before .before .loop-test .taken) (c .before .before .before .before .before .before .before .may-go .ensures) (c .before .before .before .before .before .before .if1 .taken) (c .before .before .before .put-said .ensures) (c .next-line .ensures)
+loop-again c = running-more (c .before .before .before .before .before .before .before .before .before .before .loop .inv)
+    (c .before .before .before .before .before .before .before .before .before .loop-test .taken)
+    (c .before .before .before .before .before .before .before .may-go .ensures) (c .before .before .before .before .before .before .if1 .taken)
+    (c .before .before .before .put-said .ensures) (c .next-line .ensures)
 
 same-length : tie.Need-same-length Inv-loop μ-loop
 same-length c = c .before .before .before .before .loop .inv .long
 
 returns : tie.Need-returns Inv-loop μ-loop
-returns c = running-waits (c .before .before .before .before .loop .inv) (c .before .before .before .loop-test .taken) (c .before .may-go .ensures) (c .if1 .left)
+returns c = running-waits (c .before .before .before .before .loop .inv) (c .before .before .before .loop-test .taken) (c .before .may-go .ensures)
+    (c .if1 .left)
 
 same-length-2 : tie.Need-same-length-2 Inv-loop μ-loop
 same-length-2 c = c .before .loop .inv .long

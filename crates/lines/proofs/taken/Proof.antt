@@ -19,7 +19,10 @@ returns-2 : tie.Need-returns-2
 returns-2 c = record { answer = step-minus (c .before .before .args .line) (c .before .before .args .byte) (c .before .if1 .left) (c .if2 .taken) }
 
 returns-3 : tie.Need-returns-3
-returns-3 c = record { answer = c .digit-taken2 .ensures ∙ step-first (c .before .before .before .args .line) (c .before .before .before .args .byte) (c .before .before .if1 .left) (c .before .if2 .left) }
+returns-3 c = record {
+  answer = c .digit-taken2 .ensures ∙ step-first (c .before .before .before .args .line) (c .before .before .before .args .byte)
+      (c .before .before .if1 .left) (c .before .if2 .left);
+}
 
 pub taken-spec : {M : Type 1} → statement M
 taken-spec =

@@ -6,7 +6,7 @@ use native.Mathlib.Omega.{arith}
 use borrow.Author.Needs.{needs}
 use Rattle.ground.specs.Paper.{accepted}
 use Rattle.ground.specs.Questions.{answered-no, answered-yes}
-use Rattle.word.specs.Laws.{word-there}
+use Rattle.ground.specs.Laws.{word-there}
 use Rattle.message.specs.Meaning.{dataSize, ReadValues}
 use Rattle.message.specs.Laws.{read-short, read-unmarked, read-cut, read-unsummed, read-so}
 use Rattle.message.proofs.Tags.{unmarked-first, unmarked-second, marked-both}

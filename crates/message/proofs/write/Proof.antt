@@ -4,7 +4,7 @@ use native.Mathlib.Omega.{arith}
 use borrow.Author.Needs.{needs}
 use lib.ListN.{length-take}
 use Rattle.ground.specs.Questions.{answered-no, answered-yes}
-use Rattle.word.specs.Laws.{put-there}
+use Rattle.ground.specs.Laws.{put-there}
 use Rattle.message.proofs.Writing.{Within, within, Ends, unsayable, too-short, done}
 use Rattle.message.proofs.write.Statement.{statement}
 use Rattle.message.proofs.write.Tie as tie

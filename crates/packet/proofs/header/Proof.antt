@@ -4,7 +4,7 @@ use Prim.Native.Nat.{ℕ}
 use mathlib.Core.Path.{sym, ap₂, _∙_}
 use borrow.Author.Needs.{needs}
 use Rattle.ground.specs.Paper.{accepted}
-use Rattle.word.specs.Laws.{word-there}
+use Rattle.ground.specs.Laws.{word-there}
 use Rattle.packet.proofs.Finding.{header-long, header-here, header-none}
 use Rattle.packet.proofs.header.Statement.{statement}
 use Rattle.packet.proofs.header.Tie as tie

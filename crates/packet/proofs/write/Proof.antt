@@ -3,7 +3,7 @@
 use native.Mathlib.Omega.{arith}
 use borrow.Author.Needs.{needs}
 use lib.ListN.{length-take}
-use Rattle.word.specs.Laws.{put-there}
+use Rattle.ground.specs.Laws.{put-there}
 use Rattle.packet.proofs.Writing.{TooMuch, too-much, TooShort, too-short, Done, done, summed}
 use Rattle.packet.proofs.write.Statement.{statement}
 use Rattle.packet.proofs.write.Tie as tie

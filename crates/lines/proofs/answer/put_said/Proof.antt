@@ -15,7 +15,8 @@ same-length : tie.Need-same-length
 same-length c = search needs
 
 returns : tie.Need-returns
-returns c = newline-says (c .before .before .before .before .before .before .args .line) (c .before .before .before .before .if1 .taken) (c .before .before .put-line .ensures)
+returns c = newline-says (c .before .before .before .before .before .before .args .line) (c .before .before .before .before .if1 .taken)
+    (c .before .before .put-line .ensures)
 
 returns-2 : tie.Need-returns-2
 returns-2 c = other-says (c .before .before .args .line) (c .if1 .left)

@@ -13,7 +13,8 @@ with-digit-requires : tie.Need-with-digit-requires
 with-digit-requires c κs = sym (c .before .one-more .ensures) ∙ c .if1 .taken
 
 returns : tie.Need-returns
-returns c = c .with-digit .ensures ∙ digit-more (c .before .before .before .args .line) (c .before .before .before .args .byte) (sym (c .before .before .one-more .ensures) ∙ c .before .if1 .taken)
+returns c = c .with-digit .ensures ∙ digit-more (c .before .before .before .args .line) (c .before .before .before .args .byte)
+    (sym (c .before .before .one-more .ensures) ∙ c .before .if1 .taken)
 
 returns-2 : tie.Need-returns-2
 returns-2 c = digit-other (c .before .before .args .line) (c .before .before .args .byte) (sym (c .before .one-more .ensures) ∙ c .if1 .left)

@@ -5,7 +5,7 @@ use native.Mathlib.Omega.{arith}
 use borrow.Author.Needs.{needs}
 use lib.Dec.{eqb}
 use lib.ListN.{length-take}
-use Rattle.word.specs.Laws.{word-there}
+use Rattle.ground.specs.Laws.{word-there}
 use Rattle.message.proofs.parts.checked_front.Statement.{statement}
 use Rattle.message.proofs.parts.checked_front.Tie as tie
 

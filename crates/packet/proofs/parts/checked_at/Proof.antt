@@ -8,7 +8,7 @@ use lib.Dec.{eqb}
 use lib.ListN.{take, drop}
 use Rattle.crc.specs.Meaning.{checksumOf}
 use Rattle.packet.proofs.parts.checked_at.Statement.{statement}
-use Rattle.word.specs.Laws.{word-there}
+use Rattle.ground.specs.Laws.{word-there}
 use Rattle.packet.proofs.parts.checked_at.Tie as tie
 
 add-end : tie.Need-add-end

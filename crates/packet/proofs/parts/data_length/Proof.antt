@@ -4,7 +4,7 @@ use Prim.Native.Nat.{ℕ, _-_}
 use mathlib.Core.Path.{ap}
 use native.Mathlib.Omega.{arith}
 use borrow.Author.Needs.{needs}
-use Rattle.word.specs.Laws.{word-there}
+use Rattle.ground.specs.Laws.{word-there}
 use Rattle.packet.specs.Laws.{standing}
 use Rattle.packet.proofs.parts.data_length.Statement.{statement}
 use Rattle.packet.proofs.parts.data_length.Tie as tie

@@ -1,7 +1,7 @@
 -- `packet::put_header` meets its contract: four words, one after the other.
 -- Assumes nothing.
 use borrow.Author.Needs.{needs}
-use Rattle.word.specs.Laws.{put-there}
+use Rattle.ground.specs.Laws.{put-there}
 use Rattle.packet.specs.Putting.{head-put}
 use Rattle.packet.proofs.parts.put_header.Statement.{statement}
 use Rattle.packet.proofs.parts.put_header.Tie as tie

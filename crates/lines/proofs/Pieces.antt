@@ -1,0 +1,45 @@
+-- A run over what is left of a piece.
+-- Assumes nothing.
+use mathlib.Core.Path.{_≡_, sym, ap, _∙_}
+use mathlib.Core.List.{List}
+use Prim.Native.Nat.{ℕ, _+_, _-_, _<_, _≤_}
+use native.Mathlib.Omega.{arith}
+use lib.ListN.{length, take, drop, length-take, length-drop, drop-of-length-le}
+use lib.Seq.{drop-drop, take-all}
+use Rattle.lines.specs.declared.Line.{Line}
+use Rattle.lines.specs.declared.Ran.{Ran}
+use Rattle.lines.specs.Promise.{RunPromise}
+use Rattle.lines.specs.Meaning.{enough}
+use Rattle.lines.specs.Moving.{run-used, run-moves}
+use Rattle.lines.specs.Printing.{PrintPiecePromise}
+use Rattle.lines.specs.After.{lineAfter, after-none, run-left}
+
+-- all that is left, as a part
+whole : (piece : List ℕ) (at : ℕ) → take (length piece - at) (drop at piece) ≡ drop at piece
+whole piece at = take-all (length piece - at) (drop at piece) (omega (arith, length-drop at piece))
+
+module _ (piece : List ℕ) (at : ℕ) {line : Line} {room after : List ℕ} {r : Ran}
+    (p : RunPromise line (take (length piece - at) (drop at piece)) room r after) (h : at < length piece) where
+  -- it stays in the piece
+  pub stays : at + r .used ≤ length piece
+  stays = omega (arith, run-used p, length-take (length piece - at) (drop at piece), length-drop at piece)
+
+  -- it gets on
+  pub gets-on : enough ≤ length room → length piece - (at + r .used) < length piece - at
+  gets-on k =
+      let some : 1 ≤ length (take (length piece - at) (drop at piece)) = omega (arith, length-take (length piece - at) (drop at piece), length-drop at piece) in
+      omega (arith, run-moves p k some)
+
+  -- it comes to the same
+  pub comes-to : {end : Line} → lineAfter line (drop at piece) ≡ end → lineAfter (r .line) (drop (at + r .used) piece) ≡ end
+  comes-to e =
+      ap (lineAfter (r .line)) (sym (drop-drop (r .used) at piece) ∙ ap (drop (r .used)) (sym (whole piece at)))
+      ∙ run-left p
+      ∙ ap (lineAfter line) (whole piece at)
+      ∙ e
+
+-- at the end of the piece all of it is taken
+pub all-taken : (piece : List ℕ) (at : ℕ) {line last : Line} → lineAfter last (drop at piece) ≡ lineAfter line piece → length piece ≤ at
+    → PrintPiecePromise line piece last
+all-taken piece at {line} {last} e h =
+    record { answer = sym (after-none last) ∙ ap (lineAfter last) (sym (drop-of-length-le piece h)) ∙ e }

@@ -1,0 +1,19 @@
+-- `lines::handed` meets its contract.
+-- Assumes nothing.
+use mathlib.Core.Path.{sym}
+use borrow.Author.Needs.{needs}
+use lib.Seq.{length-take-le}
+use Rattle.lines.proofs.printing.handed.Statement.{statement}
+use Rattle.lines.proofs.printing.handed.Tie as tie
+
+slice-aggregate-write-all : tie.Need-slice-aggregate-write-all
+slice-aggregate-write-all c = sym (length-take-le _ _ (search needs))
+
+write-all-requires : tie.Need-write-all-requires
+write-all-requires c κs = search needs
+
+returns : tie.Need-returns
+returns c = search needs
+
+pub handed-spec : {M : Type 1} → statement M
+handed-spec = tie.close (tie.spec slice-aggregate-write-all write-all-requires returns)

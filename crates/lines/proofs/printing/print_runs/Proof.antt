@@ -1,0 +1,89 @@
+-- `lines::print_runs` meets its contract. The loop's invariant: what is left comes to the same as the whole piece; each run gets
+-- on, so that the measure is the bytes that are left.
+-- Assumes nothing.
+use mathlib.Core.Path.{_≡_}
+use Prim.Native.Nat.{_≤_, _-_}
+use Rattle.lines.proofs.Pieces.{stays, gets-on, comes-to, all-taken}
+use borrow.Author.Needs.{needs}
+use lib.ListN.{length, drop}
+use Rattle.lines.specs.Moving.{run-put}
+use Rattle.lines.specs.After.{lineAfter}
+use Rattle.lines.proofs.printing.print_runs.Statement.{statement}
+use Rattle.lines.proofs.printing.print_runs.Tie as tie
+
+abbrev Inv-loop : tie.InvT-loop
+Inv-loop piece room₀ current₀ at₀ room current at = (at ≤ length piece) × (length room ≡ length room₀) ×
+    (lineAfter current (drop at piece) ≡ lineAfter current₀ piece)
+
+abbrev μ-loop : tie.MeasureT-loop
+μ-loop piece room₀ current₀ at₀ room current at = length piece - at
+
+loop-holds : tie.Need-loop-holds Inv-loop μ-loop
+loop-holds c = search needs
+
+sub-run : tie.Need-sub-run Inv-loop μ-loop
+sub-run c = search needs
+
+part-run-start : tie.Need-part-run-start Inv-loop μ-loop
+part-run-start c = search needs
+
+part-run-end : tie.Need-part-run-end Inv-loop μ-loop
+part-run-end c = search needs
+
+run-requires : tie.Need-run-requires Inv-loop μ-loop
+run-requires c κs = search needs
+
+handed-requires : tie.Need-handed-requires Inv-loop μ-loop
+handed-requires c κs = run-put (c .before .before .before .run .ensures)
+
+add-at : tie.Need-add-at Inv-loop μ-loop
+add-at c =
+    let ran = c .before .before .before .before .before .before in
+    let turn = c .before .before .before .before .before .before .before .before .before in
+    let loop = c .before .before .before .before .before .before .before .before .before .before in
+    let piece = c .before .before .before .before .before .before .before .before .before .before .before .before .before .args .piece .now in
+    let inside = stays piece (loop .loop .at) (ran .run .ensures) (turn .loop-test .taken) in
+    search needs
+
+loop-less : tie.Need-loop-less Inv-loop μ-loop
+loop-less c =
+    let ran = c .before .before .before .before .before .before in
+    let turn = c .before .before .before .before .before .before .before .before .before in
+    let loop = c .before .before .before .before .before .before .before .before .before .before in
+    let piece = c .before .before .before .before .before .before .before .before .before .before .before .before .before .args .piece .now in
+    gets-on piece (loop .loop .at) (ran .run .ensures) (turn .loop-test .taken) (search needs)
+
+loop-again : tie.Need-loop-again Inv-loop μ-loop
+loop-again c =
+    let ran = c .before .before .before .before .before .before in
+    let turn = c .before .before .before .before .before .before .before .before .before in
+    let loop = c .before .before .before .before .before .before .before .before .before .before in
+    let piece = c .before .before .before .before .before .before .before .before .before .before .before .before .before .args .piece .now in (
+      stays piece (loop .loop .at) (ran .run .ensures) (turn .loop-test .taken),
+      search needs,
+      comes-to piece (loop .loop .at) (ran .run .ensures) (turn .loop-test .taken) (loop .loop .inv .2),
+    )
+
+same-length : tie.Need-same-length Inv-loop μ-loop
+same-length c = c .before .loop .inv .1
+
+returns : tie.Need-returns Inv-loop μ-loop
+returns c = all-taken (c .before .before .before .before .args .piece .now) (c .before .loop .at) (c .before .loop .inv .2) (c .loop-test .left)
+
+pub print-runs-spec : {M : Type 1} → statement M
+print-runs-spec =
+    tie.close
+    (tie.spec
+    Inv-loop
+    μ-loop
+    loop-holds
+    sub-run
+    part-run-start
+    part-run-end
+    run-requires
+    handed-requires
+    add-at
+    loop-less
+    loop-again
+    same-length
+    returns)

@@ -1,0 +1,34 @@
+-- `lines::put_spaced` meets its contract.
+-- Assumes nothing.
+use mir.Syntax.{w32}
+use mir.ValLaws.{toZ-ofZ}
+use native.Mathlib.Omega.{arith}
+use Rattle.lines.proofs.Texts.{spaced-put}
+use borrow.Author.Needs.{needs}
+use Rattle.lines.proofs.text.put_spaced.Statement.{statement}
+use Rattle.lines.proofs.text.put_spaced.Tie as tie
+use Rattle.lines.proofs.text.put_spaced.Reads as reads
+use Rattle.lines.proofs.text.put_spaced.Lts as lts
+use Rattle.lines.proofs.text.put_byte.Reads as put-byte-reads
+use Rattle.lines.proofs.text.put_code.Reads as put-code-reads
+
+put-byte-requires : tie.Need-put-byte-requires
+put-byte-requires c κs = search needs
+
+put-code-requires : tie.Need-put-code-requires
+put-code-requires c κs = search needs
+
+same-length : tie.Need-same-length
+same-length c = search needs
+
+returns : tie.Need-returns
+returns c = spaced-put _ (c .before .before .before .before .before .before .before .before .before .args .v)
+    (toZ-ofZ w32 (c .before .before .before .before .before .before .before .before .before .args .v)
+    (c .before .before .before .before .before .before .before .before .before .fits .v))
+    (c .before .before .before .before .before .before .before .before .before .pre .1)
+    (c .before .before .before .before .before .before .before .before .before .pre .2)
+    (omega (arith, c .before .before .before .before .before .before .before .before .before .pre .0))
+    (c .before .before .before .before .before .before .put-byte .ensures .0) (c .before .before .put-code .ensures)
+
+pub put-spaced-spec : {M : Type 1} → statement M
+put-spaced-spec = tie.close (tie.spec put-byte-requires put-code-requires same-length returns)

@@ -1,5 +1,0 @@
-pub mod Meaning
-pub mod Texts
-pub mod Promise
-pub mod OneOutcome
-pub mod Fitting

@@ -1,4 +1,0 @@
-pub mod Meaning
-pub mod Promise
-pub mod OneOutcome
-pub mod Laws
