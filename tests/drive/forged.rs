@@ -41,8 +41,9 @@ fn one(tally: &mut Tally, random: &mut Random, words: usize) {
         0 | 1 => script.increment(tally, random.below(n + 1) as u32),
         2 => script.flip(tally),
         _ => {
-            let asked = if random.below(2) == 0 { window } else { near(random, n) };
-            script.ask_of(tally, random, last.wrapping_add(random.below(3) as u16), asked)
+            let (number, same) = (last.wrapping_add(random.below(3) as u16), random.below(2) == 0);
+            let asked = if same { window } else { near(random, n) };
+            script.ask_of(tally, random, number, asked)
         }
     }
 }

@@ -8,11 +8,8 @@ use Rattle.ground.proofs.lies_in.Tie as tie
 returns : tie.Need-returns
 returns c = past (c .before .args .bytes .now) (c .before .args .at) (c .before .args .size) (c .if1 .taken)
 
-sub-result : tie.Need-sub-result
-sub-result c = search needs
-
 returns-2 : tie.Need-returns-2
 returns-2 c = left (c .before .args .bytes .now) (c .before .args .at) (c .before .args .size) (c .if1 .left)
 
 pub lies-in-spec : {M : Type 1} → statement M
-lies-in-spec = tie.close (tie.spec returns sub-result returns-2)
+lies-in-spec = tie.close (tie.spec returns (λ c. search needs) returns-2)

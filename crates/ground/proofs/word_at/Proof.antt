@@ -6,29 +6,14 @@ use Rattle.ground.proofs.Lying.{inside, word-here, word-away}
 use Rattle.ground.proofs.word_at.Statement.{statement}
 use Rattle.ground.proofs.word_at.Tie as tie
 
-lies-in-requires : tie.Need-lies-in-requires
-lies-in-requires c κs = search needs
-
 shared-slice-read-wide : tie.Need-shared-slice-read-wide
 shared-slice-read-wide c = omega (arith, inside (c .before .before .lies-in .ensures) (c .before .if1 .taken))
-
-wide-requires : tie.Need-wide-requires
-wide-requires c κs = search needs
 
 add-wide : tie.Need-add-wide
 add-wide c = let here = inside (c .before .before .before .lies-in .ensures) (c .before .before .if1 .taken) in search needs
 
 shared-slice-read-wide-2 : tie.Need-shared-slice-read-wide-2
 shared-slice-read-wide-2 c = omega (arith, inside (c .before .before .before .before .lies-in .ensures) (c .before .before .before .if1 .taken))
-
-wide-requires-2 : tie.Need-wide-requires-2
-wide-requires-2 c κs = search needs
-
-mul-result : tie.Need-mul-result
-mul-result c = search needs
-
-add-result : tie.Need-add-result
-add-result c = search needs
 
 returns : tie.Need-returns
 returns c = word-here (c .before .before .before .before .before .lies-in .ensures) (c .before .before .before .before .if1 .taken)
@@ -41,13 +26,13 @@ pub word-at-spec : {M : Type 1} → statement M
 word-at-spec =
     tie.close
     (tie.spec
-    lies-in-requires
+    (λ c κs. search needs)
     shared-slice-read-wide
-    wide-requires
+    (λ c κs. search needs)
     add-wide
     shared-slice-read-wide-2
-    wide-requires-2
-    mul-result
-    add-result
+    (λ c κs. search needs)
+    (λ c. search needs)
+    (λ c. search needs)
     returns
     returns-2)

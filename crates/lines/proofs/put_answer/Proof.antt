@@ -8,17 +8,11 @@ use Rattle.lines.proofs.put_answer.Reads as reads
 use Rattle.lines.proofs.put_answer.Lts as lts
 use Rattle.lines.proofs.answer.put_line.Reads as put-line-reads
 
-put-line-requires : tie.Need-put-line-requires
-put-line-requires c κs = search needs
-
 returns : tie.Need-returns
 returns c = answer-short (c .if1 .taken)
-
-same-length : tie.Need-same-length
-same-length c = search needs
 
 returns-2 : tie.Need-returns-2
 returns-2 c = answer-put (search needs) (c .before .before .put-line .ensures)
 
 pub put-answer-spec : {M : Type 1} → statement M
-put-answer-spec = tie.close (tie.spec put-line-requires returns same-length returns-2)
+put-answer-spec = tie.close (tie.spec (λ c κs. search needs) returns (λ c. search needs) returns-2)

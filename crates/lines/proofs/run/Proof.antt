@@ -17,14 +17,8 @@ abbrev μ-loop : tie.MeasureT-loop
 loop-holds : tie.Need-loop-holds Inv-loop μ-loop
 loop-holds c = running-start (c .before .before .args .room .now) (c .before .before .args .input .now) (c .before .before .args .line)
 
-shared-slice-read-may-go : tie.Need-shared-slice-read-may-go Inv-loop μ-loop
-shared-slice-read-may-go c = search needs
-
 may-go-requires : tie.Need-may-go-requires Inv-loop μ-loop
 may-go-requires c κs = omega (arith, c .before .before .loop .inv .fits, c .before .before .loop .inv .long)
-
-shared-slice-read-byte : tie.Need-shared-slice-read-byte Inv-loop μ-loop
-shared-slice-read-byte c = search needs
 
 put-said-requires : tie.Need-put-said-requires Inv-loop μ-loop
 put-said-requires c κs = (
@@ -40,12 +34,6 @@ put-said-requires c κs = (
         (c .before .before .before .may-go .ensures) (c .before .before .if1 .taken) e,
   ),
 )
-
-next-line-requires : tie.Need-next-line-requires Inv-loop μ-loop
-next-line-requires c κs = search needs
-
-add-used : tie.Need-add-used Inv-loop μ-loop
-add-used c = search needs
 
 loop-less : tie.Need-loop-less Inv-loop μ-loop
 loop-less c = omega (arith, c .before .before .before .before .before .before .before .before .before .loop-test .taken)
@@ -76,12 +64,12 @@ run-spec =
     Inv-loop
     μ-loop
     loop-holds
-    shared-slice-read-may-go
+    (λ c. search needs)
     may-go-requires
-    shared-slice-read-byte
+    (λ c. search needs)
     put-said-requires
-    next-line-requires
-    add-used
+    (λ c κs. search needs)
+    (λ c. search needs)
     loop-less
     loop-again
     same-length

@@ -6,14 +6,8 @@ use Rattle.lines.proofs.Bytes.{step-later, step-minus, step-first}
 use Rattle.lines.proofs.taken.Statement.{statement}
 use Rattle.lines.proofs.taken.Tie as tie
 
-digit-taken-requires : tie.Need-digit-taken-requires
-digit-taken-requires c κs = search needs
-
 returns : tie.Need-returns
 returns c = record { answer = c .digit-taken .ensures ∙ step-later (c .before .before .args .line) (c .before .before .args .byte) (c .before .if1 .taken) }
-
-digit-taken-requires-2 : tie.Need-digit-taken-requires-2
-digit-taken-requires-2 c κs = search needs
 
 returns-2 : tie.Need-returns-2
 returns-2 c = record { answer = step-minus (c .before .before .args .line) (c .before .before .args .byte) (c .before .if1 .left) (c .if2 .taken) }
@@ -26,4 +20,4 @@ returns-3 c = record {
 
 pub taken-spec : {M : Type 1} → statement M
 taken-spec =
-    tie.close (tie.spec digit-taken-requires returns digit-taken-requires-2 returns-2 returns-3)
+    tie.close (tie.spec (λ c κs. search needs) returns (λ c κs. search needs) returns-2 returns-3)

@@ -20,17 +20,8 @@ returns c = record { answer = long (c .before .before .args .capture .now) (sear
 loop-holds : tie.Need-loop-holds Inv-loop μ-loop
 loop-holds c = passed-none (c .before .before .args .capture .now)
 
-stands-at-requires : tie.Need-stands-at-requires Inv-loop μ-loop
-stands-at-requires c κs = search needs
-
 returns-2 : tie.Need-returns-2 Inv-loop μ-loop
 returns-2 c = record { answer = here (search needs) (c .before .before .before .loop .inv) (search needs) (sym (c .before .stands-at .ensures) ∙ c .if2 .taken) }
-
-add-place : tie.Need-add-place Inv-loop μ-loop
-add-place c = search needs
-
-loop-less : tie.Need-loop-less Inv-loop μ-loop
-loop-less c = search needs
 
 loop-again : tie.Need-loop-again Inv-loop μ-loop
 loop-again c = passed-more (c .before .before .before .loop .inv) (search needs) (sym (c .before .stands-at .ensures) ∙ c .if2 .left)
@@ -46,9 +37,9 @@ find-spec =
     μ-loop
     returns
     loop-holds
-    stands-at-requires
+    (λ c κs. search needs)
     returns-2
-    add-place
-    loop-less
+    (λ c. search needs)
+    (λ c. search needs)
     loop-again
     returns-3)

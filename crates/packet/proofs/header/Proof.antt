@@ -12,17 +12,8 @@ use Rattle.packet.proofs.header.Tie as tie
 returns : tie.Need-returns
 returns c = record { answer = header-long (c .before .before .args .capture .now) (c .before .before .args .place) (search needs) }
 
-stands-at-requires : tie.Need-stands-at-requires
-stands-at-requires c κs = search needs
-
 data-length-requires : tie.Need-data-length-requires
 data-length-requires c κs = sym (c .before .stands-at .ensures) ∙ c .if2 .taken
-
-add-word-at : tie.Need-add-word-at
-add-word-at c = search needs
-
-word-at-requires : tie.Need-word-at-requires
-word-at-requires c κs = search needs
 
 returns-2 : tie.Need-returns-2
 returns-2 c =
@@ -40,9 +31,9 @@ header-spec =
     tie.close
     (tie.spec
     returns
-    stands-at-requires
+    (λ c κs. search needs)
     data-length-requires
-    add-word-at
-    word-at-requires
+    (λ c. search needs)
+    (λ c κs. search needs)
     returns-2
     returns-3)

@@ -10,41 +10,14 @@ use Rattle.packet.proofs.Finding.{Empty, empty-long, empty-none, Data, 
 use Rattle.packet.proofs.payload.Statement.{statement}
 use Rattle.packet.proofs.payload.Tie as tie
 
-slice-aggregate-result : tie.Need-slice-aggregate-result
-slice-aggregate-result c = search needs
-
 returns : tie.Need-returns
 returns c =
     let x = c .before .before .before .args .capture in
     let e = empty-long (c .before .before .before .args .capture .now) (c .before .before .before .args .place) (search needs) in
     record { bytes = e .bytes; block = refl; place = sym (add-zero (x .ptr .1)) ∙ ap (λ (n : ℕ). x .ptr .1 + n) (e .start) }
 
-stands-at-requires : tie.Need-stands-at-requires
-stands-at-requires c κs = search needs
-
 data-length-requires : tie.Need-data-length-requires
 data-length-requires c κs = sym (c .before .stands-at .ensures) ∙ c .if2 .taken
-
-cast-length : tie.Need-cast-length
-cast-length c = search needs
-
-add-start : tie.Need-add-start
-add-start c = search needs
-
-add-result : tie.Need-add-result
-add-result c = search needs
-
-sub-result : tie.Need-sub-result
-sub-result c = search needs
-
-part-result-start : tie.Need-part-result-start
-part-result-start c = search needs
-
-part-result-end : tie.Need-part-result-end
-part-result-end c = search needs
-
-slice-aggregate-result-2 : tie.Need-slice-aggregate-result-2
-slice-aggregate-result-2 c = search needs
 
 returns-2 : tie.Need-returns-2
 returns-2 c =
@@ -69,16 +42,16 @@ pub payload-spec : {M : Type 1} → statement M
 payload-spec =
     tie.close
     (tie.spec
-    slice-aggregate-result
+    (λ c. search needs)
     returns
-    stands-at-requires
+    (λ c κs. search needs)
     data-length-requires
-    cast-length
-    add-start
-    add-result
-    sub-result
-    part-result-start
-    part-result-end
-    slice-aggregate-result-2
+    (λ c. search needs)
+    (λ c. search needs)
+    (λ c. search needs)
+    (λ c. search needs)
+    (λ c. search needs)
+    (λ c. search needs)
+    (λ c. search needs)
     returns-2
     returns-3)

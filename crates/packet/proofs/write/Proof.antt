@@ -13,55 +13,13 @@ returns c =
     let r = too-much (c .before .before .before .args .buffer .now) (c .before .before .before .args .apid) (c .before .before .before .args .payload .now) (search needs) in
     record { answer = r .answer; memory = r .memory }
 
-add-if2 : tie.Need-add-if2
-add-if2 c = search needs
-
 returns-2 : tie.Need-returns-2
 returns-2 c =
     let r = too-short (c .before .before .before .before .args .buffer .now) (c .before .before .before .before .args .apid) (c .before .before .before .before .args .payload .now) (search needs) (search needs) in
     record { answer = r .answer; memory = r .memory }
 
-add-put-header : tie.Need-add-put-header
-add-put-header c = search needs
-
-cast-put-header : tie.Need-cast-put-header
-cast-put-header c = search needs
-
-put-header-requires : tie.Need-put-header-requires
-put-header-requires c κs = search needs
-
-add-end : tie.Need-add-end
-add-end c = search needs
-
-sub-copied : tie.Need-sub-copied
-sub-copied c = search needs
-
-part-copied-start : tie.Need-part-copied-start
-part-copied-start c = search needs
-
-part-copied-end : tie.Need-part-copied-end
-part-copied-end c = search needs
-
-copied-requires : tie.Need-copied-requires
-copied-requires c κs = search needs
-
-slice-reshare-prefix-checksum : tie.Need-slice-reshare-prefix-checksum
-slice-reshare-prefix-checksum c = search needs
-
 slice-aggregate-checksum : tie.Need-slice-aggregate-checksum
 slice-aggregate-checksum c = simp length-take (omega arith)
-
-checksum-requires : tie.Need-checksum-requires
-checksum-requires c κs = search needs
-
-put-word-requires : tie.Need-put-word-requires
-put-word-requires c κs = search needs
-
-add-t8 : tie.Need-add-t8
-add-t8 c = search needs
-
-same-length : tie.Need-same-length
-same-length c = search needs
 
 returns-3 : tie.Need-returns-3
 returns-3 c =
@@ -73,20 +31,20 @@ write-spec =
     tie.close
     (tie.spec
     returns
-    add-if2
+    (λ c. search needs)
     returns-2
-    add-put-header
-    cast-put-header
-    put-header-requires
-    add-end
-    sub-copied
-    part-copied-start
-    part-copied-end
-    copied-requires
-    slice-reshare-prefix-checksum
+    (λ c. search needs)
+    (λ c. search needs)
+    (λ c κs. search needs)
+    (λ c. search needs)
+    (λ c. search needs)
+    (λ c. search needs)
+    (λ c. search needs)
+    (λ c κs. search needs)
+    (λ c. search needs)
     slice-aggregate-checksum
-    checksum-requires
-    put-word-requires
-    add-t8
-    same-length
+    (λ c κs. search needs)
+    (λ c κs. search needs)
+    (λ c. search needs)
+    (λ c. search needs)
     returns-3)

@@ -6,71 +6,29 @@ use lib.ListN.{length-take}
 use Rattle.vectors.proofs.one.Statement.{statement}
 use Rattle.vectors.proofs.one.Tie as tie
 
-slice-aggregate-read-full : tie.Need-slice-aggregate-read-full
-slice-aggregate-read-full c = search needs
-
-read-full-requires : tie.Need-read-full-requires
-read-full-requires c κs = search needs
-
-returns : tie.Need-returns
-returns c = search needs
-
-array-read-wide : tie.Need-array-read-wide
-array-read-wide c = search needs
-
-wide-requires : tie.Need-wide-requires
-wide-requires c κs = search needs
-
-returns-2 : tie.Need-returns-2
-returns-2 c = search needs
-
-slice-relend-prefix-read-full : tie.Need-slice-relend-prefix-read-full
-slice-relend-prefix-read-full c = search needs
-
 slice-aggregate-read-full-2 : tie.Need-slice-aggregate-read-full-2
 slice-aggregate-read-full-2 c = simp length-take (omega arith)
 
-read-full-requires-2 : tie.Need-read-full-requires-2
-read-full-requires-2 c κs = search needs
-
-same-length : tie.Need-same-length
-same-length c = search needs
-
-returns-3 : tie.Need-returns-3
-returns-3 c = search needs
-
-slice-reshare-prefix-answer : tie.Need-slice-reshare-prefix-answer
-slice-reshare-prefix-answer c = search needs
-
 slice-aggregate-answer : tie.Need-slice-aggregate-answer
 slice-aggregate-answer c = simp length-take (omega arith)
-
-answer-requires : tie.Need-answer-requires
-answer-requires c κs = search needs
-
-same-length-2 : tie.Need-same-length-2
-same-length-2 c = search needs
-
-returns-4 : tie.Need-returns-4
-returns-4 c = search needs
 
 pub one-spec : {M : Type 1} → statement M
 one-spec =
     tie.close
     (tie.spec
-    slice-aggregate-read-full
-    read-full-requires
-    returns
-    array-read-wide
-    wide-requires
-    returns-2
-    slice-relend-prefix-read-full
+    (λ c. search needs)
+    (λ c κs. search needs)
+    (λ c. search needs)
+    (λ c. search needs)
+    (λ c κs. search needs)
+    (λ c. search needs)
+    (λ c. search needs)
     slice-aggregate-read-full-2
-    read-full-requires-2
-    same-length
-    returns-3
-    slice-reshare-prefix-answer
+    (λ c κs. search needs)
+    (λ c. search needs)
+    (λ c. search needs)
+    (λ c. search needs)
     slice-aggregate-answer
-    answer-requires
-    same-length-2
-    returns-4)
+    (λ c κs. search needs)
+    (λ c. search needs)
+    (λ c. search needs))

@@ -7,9 +7,6 @@ use Rattle.lines.proofs.answer.is_sound.Tie as tie
 use Rattle.lines.proofs.answer.is_sound.Reads as reads
 use Rattle.lines.proofs.answer.is_sound.Lts as lts
 
-returns : tie.Need-returns
-returns c = search needs
-
 returns-2 : tie.Need-returns-2
 returns-2 c = none-yet (c .before .before .before .args .line) (c .before .before .if1 .left) (search needs)
 
@@ -17,4 +14,4 @@ returns-3 : tie.Need-returns-3
 returns-3 c = in-range (c .before .before .before .before .args .line) (c .before .before .before .if1 .left) (search needs)
 
 pub is-sound-spec : {M : Type 1} → statement M
-is-sound-spec = tie.close (tie.spec returns returns-2 returns-3)
+is-sound-spec = tie.close (tie.spec (λ c. search needs) returns-2 returns-3)

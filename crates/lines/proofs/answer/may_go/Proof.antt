@@ -7,9 +7,6 @@ use Rattle.lines.proofs.answer.may_go.Tie as tie
 use Rattle.lines.proofs.answer.may_go.Reads as reads
 use Rattle.lines.proofs.answer.may_go.Lts as lts
 
-sub-result : tie.Need-sub-result
-sub-result c = search needs
-
 returns : tie.Need-returns
 returns c = go-newline (c .before .args .byte) (c .before .args .put) (c .before .args .size) (c .if1 .taken) (c .before .pre)
 
@@ -17,4 +14,4 @@ returns-2 : tie.Need-returns-2
 returns-2 c = go-other (c .before .args .byte) (c .before .args .put) (c .before .args .size) (c .if1 .left)
 
 pub may-go-spec : {M : Type 1} → statement M
-may-go-spec = tie.close (tie.spec sub-result returns returns-2)
+may-go-spec = tie.close (tie.spec (λ c. search needs) returns returns-2)

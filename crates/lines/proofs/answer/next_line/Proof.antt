@@ -9,12 +9,6 @@ use Rattle.lines.proofs.answer.next_line.Lts as lts
 use Rattle.lines.proofs.fresh_line.Reads as fresh-line-reads
 use Rattle.lines.proofs.taken.Reads as taken-reads
 
-fresh-line-requires : tie.Need-fresh-line-requires
-fresh-line-requires c κs = search needs
-
-taken-requires : tie.Need-taken-requires
-taken-requires c κs = search needs
-
 returns : tie.Need-returns
 returns c = newline-next (c .before .before .args .line) (c .before .if1 .taken) (c .fresh-line .ensures .answer)
 
@@ -22,4 +16,4 @@ returns-2 : tie.Need-returns-2
 returns-2 c = other-next (c .before .before .args .line) (c .before .if1 .left) (c .taken .ensures .answer)
 
 pub next-line-spec : {M : Type 1} → statement M
-next-line-spec = tie.close (tie.spec fresh-line-requires taken-requires returns returns-2)
+next-line-spec = tie.close (tie.spec (λ c κs. search needs) (λ c κs. search needs) returns returns-2)

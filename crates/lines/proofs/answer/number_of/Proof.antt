@@ -8,14 +8,8 @@ use Rattle.lines.proofs.answer.number_of.Tie as tie
 use Rattle.lines.proofs.answer.number_of.Reads as reads
 use Rattle.lines.proofs.answer.number_of.Lts as lts
 
-cast-result : tie.Need-cast-result
-cast-result c = search needs
-
 sub-result : tie.Need-sub-result
 sub-result c = minus-fits _ (c .before .before .pre)
-
-cast-result-2 : tie.Need-cast-result-2
-cast-result-2 c = search needs
 
 returns : tie.Need-returns
 returns c = known-minus (c .before .before .args .line) (c .before .if1 .taken) (c .before .before .pre)
@@ -24,4 +18,4 @@ returns-2 : tie.Need-returns-2
 returns-2 c = known-plus (c .before .before .args .line) (c .before .if1 .left) (c .before .before .pre)
 
 pub number-of-spec : {M : Type 1} → statement M
-number-of-spec = tie.close (tie.spec cast-result sub-result cast-result-2 returns returns-2)
+number-of-spec = tie.close (tie.spec (λ c. search needs) sub-result (λ c. search needs) returns returns-2)

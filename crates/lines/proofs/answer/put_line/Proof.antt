@@ -15,9 +15,6 @@ use Rattle.lines.proofs.answer.number_of.Reads as number-of-reads
 use Rattle.lines.proofs.text.put_number.Reads as put-number-reads
 use Rattle.lines.proofs.text.put_text.Reads as put-text-reads
 
-is-sound-requires : tie.Need-is-sound-requires
-is-sound-requires c κs = search needs
-
 number-of-requires : tie.Need-number-of-requires
 number-of-requires c κs = sound-value (c .before .before .before .before .args .line) (sym (c .before .before .is-sound .ensures) ∙ c .before .if1 .taken)
 
@@ -29,24 +26,12 @@ put-number-requires c κs =
           (sym (c .before .before .before .is-sound .ensures) ∙ c .before .before .if1 .taken),
     )
 
-slice-aggregate-put-text : tie.Need-slice-aggregate-put-text
-slice-aggregate-put-text c = search needs
-
-put-text-requires : tie.Need-put-text-requires
-put-text-requires c κs = search needs
-
-same-length : tie.Need-same-length
-same-length c = search needs
-
 returns : tie.Need-returns
 returns c = let ok : SFits w32 (c .before .before .before .number-of .result) = search needs in answer-good
     (c .before .before .before .before .before .before .before .before .args .line) _ (c .before .before .before .number-of .result)
     (toZ-ofZ w32 (c .before .before .before .number-of .result) ok) (c .before .before .before .number-of .ensures)
     (sym (c .before .before .before .before .before .before .is-sound .ensures) ∙ c .before .before .before .before .before .if1 .taken)
     (c .before .before .put-number .ensures)
-
-same-length-2 : tie.Need-same-length-2
-same-length-2 c = search needs
 
 returns-2 : tie.Need-returns-2
 returns-2 c = answer-refused (c .before .before .before .before .before .before .before .before .args .line)
@@ -57,12 +42,12 @@ pub put-line-spec : {M : Type 1} → statement M
 put-line-spec =
     tie.close
     (tie.spec
-    is-sound-requires
+    (λ c κs. search needs)
     number-of-requires
     put-number-requires
-    slice-aggregate-put-text
-    put-text-requires
-    same-length
+    (λ c. search needs)
+    (λ c κs. search needs)
+    (λ c. search needs)
     returns
-    same-length-2
+    (λ c. search needs)
     returns-2)

@@ -11,9 +11,6 @@ use Rattle.lines.proofs.answer.put_line.Reads as put-line-reads
 put-line-requires : tie.Need-put-line-requires
 put-line-requires c κs = c .before .before .before .pre .1 (c .before .if1 .taken)
 
-same-length : tie.Need-same-length
-same-length c = search needs
-
 returns : tie.Need-returns
 returns c = newline-says (c .before .before .before .before .before .before .args .line) (c .before .before .before .before .if1 .taken)
     (c .before .before .put-line .ensures)
@@ -22,4 +19,4 @@ returns-2 : tie.Need-returns-2
 returns-2 c = other-says (c .before .before .args .line) (c .if1 .left)
 
 pub put-said-spec : {M : Type 1} → statement M
-put-said-spec = tie.close (tie.spec put-line-requires same-length returns returns-2)
+put-said-spec = tie.close (tie.spec put-line-requires (λ c. search needs) returns returns-2)

@@ -6,9 +6,6 @@ use Rattle.lines.proofs.Bytes.{digit-more, digit-other}
 use Rattle.lines.proofs.byte.digit_taken.Statement.{statement}
 use Rattle.lines.proofs.byte.digit_taken.Tie as tie
 
-one-more-requires : tie.Need-one-more-requires
-one-more-requires c κs = search needs
-
 with-digit-requires : tie.Need-with-digit-requires
 with-digit-requires c κs = sym (c .before .one-more .ensures) ∙ c .if1 .taken
 
@@ -20,4 +17,4 @@ returns-2 : tie.Need-returns-2
 returns-2 c = digit-other (c .before .before .args .line) (c .before .before .args .byte) (sym (c .before .one-more .ensures) ∙ c .if1 .left)
 
 pub digit-taken-spec : {M : Type 1} → statement M
-digit-taken-spec = tie.close (tie.spec one-more-requires with-digit-requires returns returns-2)
+digit-taken-spec = tie.close (tie.spec (λ c κs. search needs) with-digit-requires returns returns-2)

@@ -5,9 +5,6 @@ use Rattle.lines.proofs.Bytes.{below, above, full, room}
 use Rattle.lines.proofs.byte.one_more.Statement.{statement}
 use Rattle.lines.proofs.byte.one_more.Tie as tie
 
-returns : tie.Need-returns
-returns c = search needs
-
 returns-2 : tie.Need-returns-2
 returns-2 c = below (c .before .before .args .line) (c .before .before .args .byte) (c .before .if1 .left) (search needs)
 
@@ -23,4 +20,4 @@ returns-5 c = room (c .before .before .before .before .before .before .args .lin
     (c .before .before .before .before .before .if1 .left) (search needs) (search needs) (search needs)
 
 pub one-more-spec : {M : Type 1} → statement M
-one-more-spec = tie.close (tie.spec returns returns-2 returns-3 returns-4 returns-5)
+one-more-spec = tie.close (tie.spec (λ c. search needs) returns-2 returns-3 returns-4 returns-5)

@@ -15,14 +15,8 @@ mul-t4 c = omega (arith, takes (c .before .before .args .line) (c .before .befor
 sub-t5 : tie.Need-sub-t5
 sub-t5 c = omega (arith, takes (c .before .before .args .line) (c .before .before .args .byte) (c .before .before .pre))
 
-cast-t6 : tie.Need-cast-t6
-cast-t6 c = search needs
-
 add-t7 : tie.Need-add-t7
 add-t7 c = omega (arith, takes (c .before .before .args .line) (c .before .before .args .byte) (c .before .before .pre))
 
-returns : tie.Need-returns
-returns c = search needs
-
 pub with-digit-spec : {M : Type 1} → statement M
-with-digit-spec = tie.close (tie.spec add-t3 mul-t4 sub-t5 cast-t6 add-t7 returns)
+with-digit-spec = tie.close (tie.spec add-t3 mul-t4 sub-t5 (λ c. search needs) add-t7 (λ c. search needs))

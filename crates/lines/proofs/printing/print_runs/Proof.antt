@@ -18,21 +18,6 @@ Inv-loop piece room₀ current₀ at₀ room current at = (at ≤ length piece) 
 abbrev μ-loop : tie.MeasureT-loop
 μ-loop piece room₀ current₀ at₀ room current at = length piece - at
 
-loop-holds : tie.Need-loop-holds Inv-loop μ-loop
-loop-holds c = search needs
-
-sub-run : tie.Need-sub-run Inv-loop μ-loop
-sub-run c = search needs
-
-part-run-start : tie.Need-part-run-start Inv-loop μ-loop
-part-run-start c = search needs
-
-part-run-end : tie.Need-part-run-end Inv-loop μ-loop
-part-run-end c = search needs
-
-run-requires : tie.Need-run-requires Inv-loop μ-loop
-run-requires c κs = search needs
-
 handed-requires : tie.Need-handed-requires Inv-loop μ-loop
 handed-requires c κs = run-put (c .before .before .before .run .ensures)
 
@@ -76,11 +61,11 @@ print-runs-spec =
     (tie.spec
     Inv-loop
     μ-loop
-    loop-holds
-    sub-run
-    part-run-start
-    part-run-end
-    run-requires
+    (λ c. search needs)
+    (λ c. search needs)
+    (λ c. search needs)
+    (λ c. search needs)
+    (λ c κs. search needs)
     handed-requires
     add-at
     loop-less

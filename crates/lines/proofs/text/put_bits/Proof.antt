@@ -19,30 +19,6 @@ loop-holds : tie.Need-loop-holds Inv-loop μ-loop
 loop-holds c = copied-none (c .before .before .args .room .now) (c .before .before .args .at)
     (bitText (c .before .before .args .bytes .now) (c .before .before .args .count))
 
-shared-slice-read-bit-of : tie.Need-shared-slice-read-bit-of Inv-loop μ-loop
-shared-slice-read-bit-of c = search needs
-
-cast-bit-of : tie.Need-cast-bit-of Inv-loop μ-loop
-cast-bit-of c = search needs
-
-bit-of-requires : tie.Need-bit-of-requires Inv-loop μ-loop
-bit-of-requires c κs = search needs
-
-add-room : tie.Need-add-room Inv-loop μ-loop
-add-room c = search needs
-
-add-room-2 : tie.Need-add-room-2 Inv-loop μ-loop
-add-room-2 c = search needs
-
-slice-write-room : tie.Need-slice-write-room Inv-loop μ-loop
-slice-write-room c = search needs
-
-add-i : tie.Need-add-i Inv-loop μ-loop
-add-i c = search needs
-
-loop-less : tie.Need-loop-less Inv-loop μ-loop
-loop-less c = search needs
-
 loop-again : tie.Need-loop-again Inv-loop μ-loop
 loop-again c =
     let n = bit-length (c .before .before .before .before .before .before .args .bytes .now)
@@ -77,14 +53,14 @@ put-bits-spec =
     Inv-loop
     μ-loop
     loop-holds
-    shared-slice-read-bit-of
-    cast-bit-of
-    bit-of-requires
-    add-room
-    add-room-2
-    slice-write-room
-    add-i
-    loop-less
+    (λ c. search needs)
+    (λ c. search needs)
+    (λ c κs. search needs)
+    (λ c. search needs)
+    (λ c. search needs)
+    (λ c. search needs)
+    (λ c. search needs)
+    (λ c. search needs)
     loop-again
     add-result
     same-length

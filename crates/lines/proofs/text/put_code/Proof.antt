@@ -13,26 +13,11 @@ use Rattle.pack.proofs.pack.Reads as pack-reads
 use Rattle.lines.proofs.text.next_of.Reads as next-of-reads
 use Rattle.lines.proofs.text.put_bits.Reads as put-bits-reads
 
-slice-aggregate-pack : tie.Need-slice-aggregate-pack
-slice-aggregate-pack c = search needs
-
-pack-requires : tie.Need-pack-requires
-pack-requires c κs = search needs
-
-slice-aggregate-put-bits : tie.Need-slice-aggregate-put-bits
-slice-aggregate-put-bits c = search needs
-
-next-of-requires : tie.Need-next-of-requires
-next-of-requires c κs = search needs
-
 put-bits-requires : tie.Need-put-bits-requires
 put-bits-requires c κs = code-asks refl (toZ-ofZ w32 (c .before .before .before .before .before .before .before .args .v)
     (c .before .before .before .before .before .before .before .fits .v)) (c .before .before .before .before .before .before .before .pre .1)
     (c .before .before .before .before .before .before .before .pre .2) (c .before .before .before .before .pack .ensures) (c .next-of .ensures) _ _
     (c .before .before .before .before .before .before .before .pre .0)
-
-same-length : tie.Need-same-length
-same-length c = search needs
 
 returns : tie.Need-returns
 returns c = code-put refl (toZ-ofZ w32 (c .before .before .before .before .before .before .before .before .before .before .args .v)
@@ -46,10 +31,10 @@ pub put-code-spec : {M : Type 1} → statement M
 put-code-spec =
     tie.close
     (tie.spec
-    slice-aggregate-pack
-    pack-requires
-    slice-aggregate-put-bits
-    next-of-requires
+    (λ c. search needs)
+    (λ c κs. search needs)
+    (λ c. search needs)
+    (λ c κs. search needs)
     put-bits-requires
-    same-length
+    (λ c. search needs)
     returns)

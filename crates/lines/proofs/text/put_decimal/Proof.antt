@@ -10,15 +10,6 @@ use Rattle.lines.proofs.text.put_decimal.Lts as lts
 use Rattle.io.proofs.decimal.Reads as decimal-reads
 use Rattle.lines.proofs.text.put_text.Reads as put-text-reads
 
-decimal-requires : tie.Need-decimal-requires
-decimal-requires c κs = search needs
-
-array-share-prefix-text : tie.Need-array-share-prefix-text
-array-share-prefix-text c = search needs
-
-slice-aggregate-put-text : tie.Need-slice-aggregate-put-text
-slice-aggregate-put-text c = search needs
-
 put-text-requires : tie.Need-put-text-requires
 put-text-requires c κs = omega (
   arith,
@@ -27,9 +18,6 @@ put-text-requires c κs = omega (
       (c .before .before .before .before .before .pre .1),
   c .before .before .before .before .before .pre .0,
 )
-
-same-length : tie.Need-same-length
-same-length c = search needs
 
 returns : tie.Need-returns
 returns c = decimal-put (c .before .before .before .before .before .decimal .ensures .1 .0)
@@ -40,9 +28,9 @@ pub put-decimal-spec : {M : Type 1} → statement M
 put-decimal-spec =
     tie.close
     (tie.spec
-    decimal-requires
-    array-share-prefix-text
-    slice-aggregate-put-text
+    (λ c κs. search needs)
+    (λ c. search needs)
+    (λ c. search needs)
     put-text-requires
-    same-length
+    (λ c. search needs)
     returns)

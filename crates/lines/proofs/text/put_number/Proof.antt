@@ -18,9 +18,6 @@ use Rattle.lines.proofs.text.put_byte.Reads as put-byte-reads
 use Rattle.lines.proofs.text.put_spaced.Reads as put-spaced-reads
 use Rattle.lines.proofs.text.put_value.Reads as put-value-reads
 
-put-value-requires : tie.Need-put-value-requires
-put-value-requires c κs = search needs
-
 put-spaced-requires : tie.Need-put-spaced-requires
 put-spaced-requires c κs =
     let value = c .before .before .before in
@@ -64,9 +61,6 @@ put-byte-requires c κs =
       start .pre .0,
     )
 
-same-length : tie.Need-same-length
-same-length c = search needs
-
 returns : tie.Need-returns
 returns c =
     let second = c .before .before .before .before .before .before in
@@ -80,9 +74,9 @@ pub put-number-spec : {M : Type 1} → statement M
 put-number-spec =
     tie.close
     (tie.spec
-    put-value-requires
+    (λ c κs. search needs)
     put-spaced-requires
     put-spaced-requires-2
     put-byte-requires
-    same-length
+    (λ c. search needs)
     returns)

@@ -12,15 +12,6 @@ use Rattle.lines.proofs.text.put_spaced.Lts as lts
 use Rattle.lines.proofs.text.put_byte.Reads as put-byte-reads
 use Rattle.lines.proofs.text.put_code.Reads as put-code-reads
 
-put-byte-requires : tie.Need-put-byte-requires
-put-byte-requires c κs = search needs
-
-put-code-requires : tie.Need-put-code-requires
-put-code-requires c κs = search needs
-
-same-length : tie.Need-same-length
-same-length c = search needs
-
 returns : tie.Need-returns
 returns c = spaced-put _ (c .before .before .before .before .before .before .before .before .before .args .v)
     (toZ-ofZ w32 (c .before .before .before .before .before .before .before .before .before .args .v)
@@ -31,4 +22,4 @@ returns c = spaced-put _ (c .before .before .before .before .before .before .bef
     (c .before .before .before .before .before .before .put-byte .ensures .0) (c .before .before .put-code .ensures)
 
 pub put-spaced-spec : {M : Type 1} → statement M
-put-spaced-spec = tie.close (tie.spec put-byte-requires put-code-requires same-length returns)
+put-spaced-spec = tie.close (tie.spec (λ c κs. search needs) (λ c κs. search needs) (λ c. search needs) returns)

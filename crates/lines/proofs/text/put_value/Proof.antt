@@ -15,15 +15,6 @@ use Rattle.code.proofs.sign.Reads as sign-reads
 use Rattle.lines.proofs.text.put_byte.Reads as put-byte-reads
 use Rattle.lines.proofs.text.put_decimal.Reads as put-decimal-reads
 
-sign-requires : tie.Need-sign-requires
-sign-requires c κs = search needs
-
-put-byte-requires : tie.Need-put-byte-requires
-put-byte-requires c κs = search needs
-
-magnitude-requires : tie.Need-magnitude-requires
-magnitude-requires c κs = search needs
-
 put-decimal-requires : tie.Need-put-decimal-requires
 put-decimal-requires c κs = (
   omega (
@@ -38,9 +29,6 @@ put-decimal-requires c κs = (
       (c .before .before .before .before .before .before .before .before .before .pre .1),
 )
 
-magnitude-requires-2 : tie.Need-magnitude-requires-2
-magnitude-requires-2 c κs = search needs
-
 put-decimal-requires-2 : tie.Need-put-decimal-requires-2
 put-decimal-requires-2 c κs = (
   omega (arith, c .before .before .before .before .before .pre .0),
@@ -48,9 +36,6 @@ put-decimal-requires-2 c κs = (
       (c .before .before .before .before .before .args .v) (toZ-ofZ w32 (c .before .before .before .before .before .args .v)
       (c .before .before .before .before .before .fits .v)) (c .magnitude2 .ensures) (c .before .before .before .before .before .pre .1),
 )
-
-same-length : tie.Need-same-length
-same-length c = search needs
 
 returns : tie.Need-returns
 returns c = value-minus _ (c .before .before .before .before .before .before .before .before .before .before .before .before .args .v)
@@ -60,9 +45,6 @@ returns c = value-minus _ (c .before .before .before .before .before .before .be
     (c .before .before .before .magnitude .ensures) (c .before .before .before .before .before .before .before .before .before .if1 .taken)
     (omega (arith, c .before .before .before .before .before .before .before .before .before .before .before .before .pre .0))
     (c .before .before .before .before .before .before .before .put-byte .ensures .0) (c .before .before .put-decimal .ensures)
-
-same-length-2 : tie.Need-same-length-2
-same-length-2 c = search needs
 
 returns-2 : tie.Need-returns-2
 returns-2 c = value-plus _ (c .before .before .before .before .before .before .before .before .args .v)
@@ -75,13 +57,13 @@ pub put-value-spec : {M : Type 1} → statement M
 put-value-spec =
     tie.close
     (tie.spec
-    sign-requires
-    put-byte-requires
-    magnitude-requires
+    (λ c κs. search needs)
+    (λ c κs. search needs)
+    (λ c κs. search needs)
     put-decimal-requires
-    magnitude-requires-2
+    (λ c κs. search needs)
     put-decimal-requires-2
-    same-length
+    (λ c. search needs)
     returns
-    same-length-2
+    (λ c. search needs)
     returns-2)

@@ -21,23 +21,8 @@ loop-holds c = summed-none (c .before .args .bytes .now) (c .before .args .at) (
 mul-value : tie.Need-mul-value Inv-loop μ-loop
 mul-value c = omega (arith, room (c .before .loop .inv .small) (omega arith))
 
-add-long : tie.Need-add-long Inv-loop μ-loop
-add-long c = search needs
-
-shared-slice-read-long : tie.Need-shared-slice-read-long Inv-loop μ-loop
-shared-slice-read-long c = search needs
-
-long-requires : tie.Need-long-requires Inv-loop μ-loop
-long-requires c κs = search needs
-
 add-value : tie.Need-add-value Inv-loop μ-loop
 add-value c = omega (arith, room (c .before .before .before .loop .inv .small) (omega arith))
-
-add-i : tie.Need-add-i Inv-loop μ-loop
-add-i c = search needs
-
-loop-less : tie.Need-loop-less Inv-loop μ-loop
-loop-less c = search needs
 
 loop-again : tie.Need-loop-again Inv-loop μ-loop
 loop-again c = summed-more (c .long .result) (search needs) (c .before .before .before .loop .inv) (search needs) (c .long .ensures .0) (c .long .ensures .1)
@@ -53,11 +38,11 @@ number-at-spec =
     μ-loop
     loop-holds
     mul-value
-    add-long
-    shared-slice-read-long
-    long-requires
+    (λ c. search needs)
+    (λ c. search needs)
+    (λ c κs. search needs)
     add-value
-    add-i
-    loop-less
+    (λ c. search needs)
+    (λ c. search needs)
     loop-again
     returns)

@@ -11,27 +11,6 @@ use Rattle.packet.proofs.parts.checked_at.Statement.{statement}
 use Rattle.ground.specs.Laws.{word-there}
 use Rattle.packet.proofs.parts.checked_at.Tie as tie
 
-add-end : tie.Need-add-end
-add-end c = search needs
-
-add-end-2 : tie.Need-add-end-2
-add-end-2 c = search needs
-
-sub-checksum : tie.Need-sub-checksum
-sub-checksum c = search needs
-
-part-checksum-start : tie.Need-part-checksum-start
-part-checksum-start c = search needs
-
-part-checksum-end : tie.Need-part-checksum-end
-part-checksum-end c = search needs
-
-checksum-requires : tie.Need-checksum-requires
-checksum-requires c κs = search needs
-
-word-at-requires : tie.Need-word-at-requires
-word-at-requires c κs = search needs
-
 returns : tie.Need-returns
 returns c =
     let a = c .before .before .before .before .args in
@@ -44,11 +23,11 @@ pub checked-at-spec : {M : Type 1} → statement M
 checked-at-spec =
     tie.close
     (tie.spec
-    add-end
-    add-end-2
-    sub-checksum
-    part-checksum-start
-    part-checksum-end
-    checksum-requires
-    word-at-requires
+    (λ c. search needs)
+    (λ c. search needs)
+    (λ c. search needs)
+    (λ c. search needs)
+    (λ c. search needs)
+    (λ c κs. search needs)
+    (λ c κs. search needs)
     returns)

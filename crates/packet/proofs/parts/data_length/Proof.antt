@@ -12,9 +12,6 @@ use Rattle.packet.proofs.parts.data_length.Tie as tie
 add-word-at : tie.Need-add-word-at
 add-word-at c = omega (arith, standing (c .before .args .capture .now) (c .before .args .place) (c .before .pre))
 
-word-at-requires : tie.Need-word-at-requires
-word-at-requires c κs = search needs
-
 sub-result : tie.Need-sub-result
 sub-result c =
     let s = standing (c .before .before .args .capture .now) (c .before .before .args .place) (c .before .before .pre) in
@@ -27,4 +24,4 @@ returns c =
     (ap (λ (w : ℕ). w - 4) is, omega (arith, s, is))
 
 pub data-length-spec : {M : Type 1} → statement M
-data-length-spec = tie.close (tie.spec add-word-at word-at-requires sub-result returns)
+data-length-spec = tie.close (tie.spec add-word-at (λ c κs. search needs) sub-result returns)

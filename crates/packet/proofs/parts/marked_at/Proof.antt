@@ -5,51 +5,18 @@ use Rattle.packet.proofs.Tests.{tests}
 use Rattle.packet.proofs.parts.marked_at.Statement.{statement}
 use Rattle.packet.proofs.parts.marked_at.Tie as tie
 
-shared-slice-read-if1 : tie.Need-shared-slice-read-if1
-shared-slice-read-if1 c = search needs
-
-returns : tie.Need-returns
-returns c = search tests
-
-add-if2 : tie.Need-add-if2
-add-if2 c = search needs
-
-shared-slice-read-if2 : tie.Need-shared-slice-read-if2
-shared-slice-read-if2 c = search needs
-
-returns-2 : tie.Need-returns-2
-returns-2 c = search tests
-
-add-if3 : tie.Need-add-if3
-add-if3 c = search needs
-
-shared-slice-read-if3 : tie.Need-shared-slice-read-if3
-shared-slice-read-if3 c = search needs
-
-returns-3 : tie.Need-returns-3
-returns-3 c = search tests
-
-add-result : tie.Need-add-result
-add-result c = search needs
-
-shared-slice-read-result : tie.Need-shared-slice-read-result
-shared-slice-read-result c = search needs
-
-returns-4 : tie.Need-returns-4
-returns-4 c = search tests
-
 pub marked-at-spec : {M : Type 1} → statement M
 marked-at-spec =
     tie.close
     (tie.spec
-    shared-slice-read-if1
-    returns
-    add-if2
-    shared-slice-read-if2
-    returns-2
-    add-if3
-    shared-slice-read-if3
-    returns-3
-    add-result
-    shared-slice-read-result
-    returns-4)
+    (λ c. search needs)
+    (λ c. search tests)
+    (λ c. search needs)
+    (λ c. search needs)
+    (λ c. search tests)
+    (λ c. search needs)
+    (λ c. search needs)
+    (λ c. search tests)
+    (λ c. search needs)
+    (λ c. search needs)
+    (λ c. search tests))

@@ -11,9 +11,6 @@ use Rattle.packet.proofs.Standing.{too-near-the-end, not-marked, too-sm
 use Rattle.packet.proofs.parts.stands_at.Statement.{statement}
 use Rattle.packet.proofs.parts.stands_at.Tie as tie
 
-lies-in-requires : tie.Need-lies-in-requires
-lies-in-requires c κs = search needs
-
 returns : tie.Need-returns
 returns c = too-near-the-end (c .before .before .before .args .capture .now) (c .before .before .before .args .place) (answered-no (c .before .lies-in .ensures .answer) (c .if1 .taken))
 
@@ -26,23 +23,11 @@ returns-2 c = not-marked (c .before .before .before .before .before .args .captu
 add-word-at : tie.Need-add-word-at
 add-word-at c = omega (arith, leb-true (c .before .before .before .before .before .args .place + 10) (length (c .before .before .before .before .before .args .capture .now)) (answered-yes (c .before .before .before .lies-in .ensures .answer) (c .before .before .if1 .left)))
 
-word-at-requires : tie.Need-word-at-requires
-word-at-requires c κs = search needs
-
-cast-word : tie.Need-cast-word
-cast-word c = search needs
-
 returns-3 : tie.Need-returns-3
 returns-3 c = too-small (c .before .before .before .before .before .before .before .args .capture .now) (c .before .before .before .before .before .before .before .args .place) (c .before .word-at .result) (c .before .word-at .ensures) (answered-yes (c .before .before .before .before .before .lies-in .ensures .answer) (c .before .before .before .before .if1 .left)) (answered-yes (c .before .before .before .marked-at .ensures) (c .before .before .if2 .left)) (search needs)
 
 returns-4 : tie.Need-returns-4
 returns-4 c = too-large (c .before .before .before .before .before .before .before .before .args .capture .now) (c .before .before .before .before .before .before .before .before .args .place) (c .before .before .word-at .result) (c .before .before .word-at .ensures) (answered-yes (c .before .before .before .before .before .before .lies-in .ensures .answer) (c .before .before .before .before .before .if1 .left)) (answered-yes (c .before .before .before .before .marked-at .ensures) (c .before .before .before .if2 .left)) (search needs) (search needs)
-
-add-lies-in : tie.Need-add-lies-in
-add-lies-in c = search needs
-
-lies-in-requires-2 : tie.Need-lies-in-requires-2
-lies-in-requires-2 c κs = search needs
 
 returns-5 : tie.Need-returns-5
 returns-5 c = not-whole (c .before .before .before .before .before .before .before .before .before .before .args .capture .now) (c .before .before .before .before .before .before .before .before .before .before .args .place) (c .before .before .before .before .word-at .result) (c .before .before .before .before .word-at .ensures) (answered-yes (c .before .before .before .before .before .before .before .before .lies-in .ensures .answer) (c .before .before .before .before .before .before .before .if1 .left)) (answered-yes (c .before .before .before .before .before .before .marked-at .ensures) (c .before .before .before .before .before .if2 .left)) (search needs) (search needs) (answered-no (c .before .lies-in2 .ensures .answer) (c .if5 .taken))
@@ -57,17 +42,17 @@ pub stands-at-spec : {M : Type 1} → statement M
 stands-at-spec =
     tie.close
     (tie.spec
-    lies-in-requires
+    (λ c κs. search needs)
     returns
     marked-at-requires
     returns-2
     add-word-at
-    word-at-requires
-    cast-word
+    (λ c κs. search needs)
+    (λ c. search needs)
     returns-3
     returns-4
-    add-lies-in
-    lies-in-requires-2
+    (λ c. search needs)
+    (λ c κs. search needs)
     returns-5
     checked-at-requires
     returns-6)
