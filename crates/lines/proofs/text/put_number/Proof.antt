@@ -24,7 +24,7 @@ put-spaced-requires c κs =
     let start = c .before .before .before .before .before .before in (
       omega (arith, value .put-value .ensures .1, value .put-value .ensures .0 .long, start .pre .0),
       subst (λ (n : ℕ). n ≤ largest) (ap natAbs (sym (toZ-ofZ w32 (start .args .v) (start .fits .v)))) (start .pre .1),
-      none,
+      search (none, three),
     )
 
 put-spaced-requires-2 : tie.Need-put-spaced-requires-2
@@ -41,7 +41,7 @@ put-spaced-requires-2 c κs =
         start .pre .0,
       ),
       subst (λ (n : ℕ). n ≤ largest) (ap natAbs (sym (toZ-ofZ w32 (start .args .v) (start .fits .v)))) (start .pre .1),
-      three,
+      search (none, three),
     )
 
 put-byte-requires : tie.Need-put-byte-requires
