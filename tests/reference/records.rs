@@ -4,27 +4,6 @@
 use crate::code;
 use crate::random::Random;
 
-/// Document 01's numbers of each answer, its cases in the order of the Rattle enum: found, headed, written; a message read,
-/// written; packed, unpacked; the codes of 16, 8 and 24 bits, the count of 24 bits; a level's length, a second's level; a reading
-/// and a rate.
-const NUMBERS: [&[u8]; 15] = [
-    &[0, 20, 1],
-    &[0, 20, 1],
-    &[0, 2, 3],
-    &[0, 4, 5, 6],
-    &[0, 7, 3],
-    &[0, 8, 3],
-    &[0, 8, 9, 10, 11],
-    &[0, 12],
-    &[0, 12],
-    &[0, 12],
-    &[0, 12],
-    &[0, 19],
-    &[0, 19],
-    &[0, 8, 9, 10, 11],
-    &[0, 8, 9, 10, 11, 19],
-];
-
 fn record(letter: u8, drop: u8, at: u64, bytes: &[u8]) -> Vec<u8> {
     [&[letter, drop, bytes.len() as u8][..], &at.to_be_bytes(), bytes].concat()
 }
@@ -50,16 +29,12 @@ pub fn answers(mut input: &[u8]) -> String {
         let mut place = Some(u64::from_be_bytes(at.try_into().unwrap()));
         match letter {
             b'r' => all += &code_line(bytes, place.unwrap(), *drop).0,
-            b'm' => {
+            _ => {
                 while let Some(at) = place {
                     let (line, next) = code_line(bytes, at, *drop);
                     all += &line;
                     place = next;
                 }
-            }
-            _ => {
-                let numbers: Vec<String> = NUMBERS[*drop as usize].iter().map(u8::to_string).collect();
-                all += &(numbers.join(" ") + "\n");
             }
         }
     }
@@ -123,9 +98,6 @@ fn singles(random: &mut Random, all: &mut Vec<u8>) {
 pub fn feed() -> Vec<u8> {
     let mut random = Random::new(1);
     let mut all = Vec::new();
-    for which in 0..NUMBERS.len() as u8 {
-        all.extend(record(b'n', which, 0, &[]));
-    }
     singles(&mut random, &mut all);
     runs(&mut random, &mut all);
     all

@@ -1,6 +1,6 @@
 -- Demand 2: "A written packet or message reads back as itself". Of the calls' outcomes, whatever follows in the buffer.
 -- Assumes nothing.
-use mathlib.Core.Path.{_≡_, refl, sym, ap, _∙_, subst}
+use mathlib.Core.Path.{_≡_, sym, ap, _∙_, subst}
 use mathlib.Core.List.{List}
 use Prim.Native.Nat.{ℕ, _+_, _^_, _<_, _≤_}
 use denote.Ref.{RefT}

@@ -1,10 +1,7 @@
 -- Bits of bytes: "Bits go most significant first".
 -- Assumes nothing.
-use mathlib.Core.Path.{_≡_, refl, sym, ap, _∙_}
 use mathlib.Core.List.{List, [], _∷_, _++_}
-use Prim.Native.Nat.{ℕ, zero, suc, _+_, _*_, _/_, _%_, _^_, _<_}
-use native.Mathlib.Omega.{arith}
-use lib.ListN.{length, length-append}
+use Prim.Native.Nat.{ℕ, zero, suc, _+_, _/_, _%_, _^_}
 
 -- the w lowest bits of a number, most significant first
 abbrev pub toBits : ℕ → ℕ → List ℕ

@@ -1,6 +1,6 @@
 -- Pages: an accepted increment raises one counter of the active page; an ask visits the idle page alone, so no counter of the active page changes.
 -- Assumes nothing.
-use mathlib.Core.Bool.{Bool, true, not}
+use mathlib.Core.Bool.{Bool}
 use mathlib.Core.Path.{_≡_, refl}
 use mathlib.Core.List.{List}
 use Prim.Native.Nat.{ℕ, _+_, _/_, _<_}

@@ -2,18 +2,18 @@
 -- Assumes nothing.
 use mathlib.Core.Bool.{Bool, true, false, not, _&&_}
 use mathlib.Core.Path.{_≡_, refl, ap₂}
-use mathlib.Core.List.{List, [], _∷_, _++_}
+use mathlib.Core.List.{List, [], _∷_}
 use Prim.Native.Nat.{ℕ, _≤_}
 use native.Mathlib.Omega.{arith}
 use borrow.Author.Tests.{eq-eqb, le-leb, leb-true}
 use lib.Dec.{eqb, leb}
-use lib.ListN.{drop, getD, length, replicate}
+use lib.ListN.{drop, getD, length}
 use Rattle.ground.specs.Choice.{pick}
 use Rattle.ground.specs.Questions.{both-hold}
 use Rattle.pages.specs.Meaning.{PageOutcome, countMeans, sizedOf}
 use Rattle.pages.specs.declared.Window.{Window}
 use Rattle.histogram.specs.Words.{Kept, Last, Nothing, flagIn, flagOf, flipIn, freshIn, keepIn, keptIn, pageIn, stateWords}
-use Rattle.histogram.specs.Meaning.{counting, fittingOf, incrementMeans, flipMeans, refuse, roomy}
+use Rattle.histogram.specs.Meaning.{counting, fittingOf, incrementMeans, refuse, roomy}
 
 -- what holds of ten words and any rest holds of ten words or more
 pub ten : (P : List ℕ → Type 0) → ((a b c d e f g h i j : ℕ) (l : List ℕ) → P (a ∷ b ∷ c ∷ d ∷ e ∷ f ∷ g ∷ h ∷ i ∷ j ∷ l))

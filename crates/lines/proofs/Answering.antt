@@ -6,9 +6,9 @@ use mathlib.Core.List.{List, [], _∷_, _++_}
 use Prim.Native.Nat.{ℕ, zero, suc, _+_, _-_, _<_, _≤_, zero-le}
 use native.Mathlib.Numerals.{add-one}
 use native.Mathlib.Omega.{arith}
-use borrow.Author.Tests.{lt-leb, le-leb, lt-ltb, le-ltb, leb-true, ltb-true, ltb-false, eq-eqb, ne-eqb, eqb-true}
-use lib.Dec.{leb, ltb, eqb}
-use lib.IntN.{ℤ, pos, negsuc, negℤ, _-ℤ_, natAbs}
+use borrow.Author.Tests.{lt-leb, le-leb, lt-ltb, le-ltb, leb-true, ltb-true, ltb-false, eq-eqb, ne-eqb}
+use lib.Dec.{leb, ltb}
+use lib.IntN.{ℤ, pos, negℤ, _-ℤ_, natAbs}
 use lib.ListN.{length, drop, getD, drop-of-length-le}
 use lib.Seq.{drop-cons}
 use mir.Syntax.{w32}
@@ -19,7 +19,6 @@ use Rattle.ground.specs.Putting.{put}
 use Rattle.code.specs.Meaning.{largest}
 use Rattle.code.proofs.Numbers.{minus, plus}
 use Rattle.lines.specs.declared.Line.{Line}
-use Rattle.lines.specs.declared.Ran.{Ran}
 use Rattle.lines.specs.Meaning.{header, numberText, refusedText}
 use Rattle.lines.specs.Reading.{fresh, step, sound, known, answerOf}
 use Rattle.lines.specs.Meaning.{enough}

@@ -1,10 +1,10 @@
 -- The tests of a byte, one after the other.
 -- Assumes nothing.
-use mathlib.Core.Path.{_≡_, refl}
-use mathlib.Core.Bool.{Bool, true, false, not, _&&_}
+use mathlib.Core.Path.{_≡_}
+use mathlib.Core.Bool.{true, false, not}
 use Prim.Native.Nat.{ℕ, _<_, _≤_}
 use borrow.Author.Tests.{lt-leb, le-leb, lt-ltb, le-ltb, leb-true, ltb-true, eq-eqb, ne-eqb}
-use lib.Dec.{leb, ltb, eqb}
+use lib.Dec.{leb, ltb}
 use Rattle.ground.specs.Questions.{both-hold}
 use Rattle.lines.specs.declared.Line.{Line}
 use Rattle.lines.specs.Reading.{oneMore, digitStep, withDigit, step, four-hold}

@@ -7,9 +7,9 @@ use Prim.Native.Nat.{ℕ, zero, suc, _+_, _-_, _*_, _/_, _%_, _^_, _<_, _≤_}
 use native.Mathlib.Nat.{not-suc-le-zero, le-of-suc-le-suc, le-refl, pow-suc, pow-le-pow-right, zero-lt-suc, zero-add, add-zero}
 use native.Mathlib.Omega.{arith}
 use borrow.Author.Tests.{lt-ltb, le-ltb, eq-eqb, ne-eqb, leb-true, leb-false}
-use lib.Dec.{leb, ltb, eqb}
+use lib.Dec.{leb, eqb}
 use lib.IntN.{ℤ, natAbs}
-use lib.ListN.{length, take, drop, getD, set, length-take, length-map}
+use lib.ListN.{length, take, getD, set, length-map}
 use lib.Seq.{getD-take, length-take-le}
 use Rattle.ground.specs.Bits.{bitsOf}
 use Rattle.ground.specs.Choice.{pick}
@@ -19,7 +19,6 @@ use Rattle.code.specs.Positions.{getD-bitsOf, length-counted, length-bytesFrom}
 use Rattle.code.specs.Answers.{packedPaper}
 use Rattle.code.specs.Promise.{PackPromise}
 use Rattle.code.specs.Meaning.{largest, codeOf, signOf, shapeOfNumber, bytesWith, putAt, packLeaves, packMeans, counted, dropTaken}
-use Rattle.code.specs.BitLists.{allBits}
 use Rattle.code.specs.Shapes.{Drop, none, three}
 use Rattle.code.specs.Magnitudes.{number-valid}
 use Rattle.code.specs.Theorems.{packs, put-stands, allBits-shape}

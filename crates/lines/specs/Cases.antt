@@ -1,8 +1,7 @@
 -- Document 01's example, by computing.
 -- Assumes nothing.
 use mathlib.Core.Path.{_≡_, refl}
-use mathlib.Core.List.{List, [], _∷_}
-use Prim.Native.Nat.{ℕ}
+use mathlib.Core.List.{[], _∷_}
 use Rattle.code.specs.Meaning.{leadingIn, shapeOf}
 use Rattle.lines.specs.Meaning.{shortest}
 use Rattle.lines.specs.Meaning.{lineMeans, refusedText, printed}

@@ -1,22 +1,22 @@
 -- What a program that moves the bytes relies on: nothing is used or put past an end, and a run over a piece gets on.
 -- Assumes nothing.
-use mathlib.Core.Path.{_≡_, refl, sym, ap, _∙_, subst}
+use mathlib.Core.Path.{_≡_, refl, sym, ap, subst}
 use mathlib.Core.Bool.{Bool, true, false, _&&_}
 use mathlib.Core.List.{List, [], _∷_, _++_}
-use Prim.Native.Nat.{ℕ, zero, suc, _+_, _≤_, _<_, zero-le}
+use Prim.Native.Nat.{ℕ, _+_, _≤_, zero-le}
 use native.Mathlib.Omega.{arith}
 use native.Mathlib.Nat.{not-suc-le-zero}
-use borrow.Author.Tests.{le-ltb, lt-ltb, ltb-true}
+use borrow.Author.Tests.{le-ltb}
 use lib.Dec.{ltb, eqb}
-use lib.ListN.{length, take, drop, length-append}
-use Rattle.ground.specs.Choice.{pick, pick-elim}
+use lib.ListN.{length, drop, length-append}
+use Rattle.ground.specs.Choice.{pick}
 use Rattle.ground.specs.Putting.{put}
 use Rattle.lines.specs.declared.Line.{Line}
 use Rattle.lines.specs.declared.Ran.{Ran}
 use Rattle.lines.specs.Meaning.{header}
 use Rattle.lines.specs.Reading.{answerOf}
 use Rattle.lines.specs.Meaning.{enough}
-use Rattle.lines.specs.Running.{Stand, nextLine, says, waits, goes, ranOver, Fair, fair, used-within}
+use Rattle.lines.specs.Running.{Stand, nextLine, says, goes, ranOver, fair, used-within}
 use Rattle.lines.specs.Promise.{HeaderPromise, AnswerPromise, RunPromise}
 
 -- what is put at the front of a room lies in it

@@ -3,14 +3,13 @@
 use mathlib.Core.Path.{_≡_, refl, sym, ap, ap₂, _∙_, subst}
 use mathlib.Core.Bool.{Bool, true, false, not, _&&_}
 use mathlib.Core.List.{List, [], _∷_, _++_}
-use Prim.Native.Nat.{ℕ, zero, suc, _+_, _-_, _*_, _^_, _<_, _≤_, zero-le}
+use Prim.Native.Nat.{ℕ, suc, _+_, _-_, _*_, _^_, _<_, _≤_, zero-le}
 use native.Mathlib.Nat.{pow-suc, pow-le-pow-right, zero-lt-suc, add-zero, zero-add, add-suc, suc-add}
-use native.Mathlib.Numerals.{add-one}
 use native.Mathlib.Omega.{arith}
-use borrow.Author.Tests.{leb-true, leb-false, ltb-true, ltb-false, eqb-true, eqb-false, le-leb, lt-leb, lt-ltb, le-ltb, eq-eqb, ne-eqb}
+use borrow.Author.Tests.{leb-true, ltb-true, le-leb, lt-ltb}
 use lib.Dec.{leb, ltb, eqb, eqb·suc-zero}
 use lib.IntN.{ℤ, pos, negℤ}
-use lib.ListN.{length, drop, length-append}
+use lib.ListN.{length, length-append}
 use Rattle.ground.specs.Choice.{pick, pick-elim}
 use Rattle.ground.specs.Questions.{both-hold}
 use Rattle.code.specs.Meaning.{largest}

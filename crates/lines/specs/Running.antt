@@ -1,12 +1,12 @@
 -- Lines one after the other, in pieces of any length, into a lent room: what a run over one piece does, and that pieces joined
 -- print what document 01 says.
 -- Assumes nothing.
-use mathlib.Core.Path.{_≡_, refl, sym, ap, ap₂, _∙_, subst}
+use mathlib.Core.Path.{_≡_, refl, ap, ap₂, _∙_}
 use mathlib.Core.Bool.{Bool, true, false, not, _&&_}
 use mathlib.Core.List.{List, [], _∷_, _++_, append-assoc}
-use Prim.Native.Nat.{ℕ, zero, suc, _+_, _≤_, _<_, zero-le}
+use Prim.Native.Nat.{ℕ, suc, _+_, _≤_, zero-le}
 use native.Mathlib.Omega.{arith}
-use lib.Dec.{ltb, eqb, eqb·suc-zero}
+use lib.Dec.{ltb, eqb}
 use lib.ListN.{length, drop}
 use Rattle.ground.specs.Choice.{pick, pick-elim}
 use Rattle.lines.specs.declared.Line.{Line}

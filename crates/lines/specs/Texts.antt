@@ -1,16 +1,15 @@
 -- Text put into a room, piece after piece, and how long each piece is.
 -- Assumes nothing.
 use mathlib.Core.Path.{_≡_, refl, sym, ap, ap₂, _∙_, subst}
-use mathlib.Core.Bool.{Bool, true, false}
-use mathlib.Core.List.{List, [], _∷_, _++_, map, append-assoc}
-use Prim.Native.Nat.{ℕ, zero, suc, _+_, _-_, _/_, _%_, _≤_, _<_, zero-le}
+use mathlib.Core.List.{List, [], _∷_, _++_, append-assoc}
+use Prim.Native.Nat.{ℕ, zero, suc, _+_, _-_, _/_, _%_, _≤_, zero-le}
 use native.Mathlib.Nat.{add-zero}
 use native.Mathlib.Omega.{arith}
 use lib.Dec.{ltb, eqb}
 use lib.IntN.{ℤ, natAbs}
-use lib.ListN.{length, take, drop, length-append, length-map, length-take, take-append-drop, replicate, length-replicate}
+use lib.ListN.{length, take, drop, length-append, length-map, take-append-drop, replicate, length-replicate}
 use lib.Seq.{length-take-le}
-use Rattle.ground.specs.Choice.{pick, pick-elim}
+use Rattle.ground.specs.Choice.{pick-elim}
 use Rattle.ground.specs.Paper.{Paper, accepted, refused, refusedWith}
 use Rattle.ground.specs.Putting.{put, put-next}
 use Rattle.ground.specs.Bits.{toBits}

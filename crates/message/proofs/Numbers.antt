@@ -1,14 +1,14 @@
 -- A value taken from its bytes, the first first, and put as its bytes, the last first.
 -- Assumes nothing.
-use mathlib.Core.Path.{_≡_, refl, sym, ap, ap₂, _∙_, subst}
-use mathlib.Core.List.{List, [], _∷_, _++_}
-use Prim.Native.Nat.{ℕ, zero, suc, _+_, _-_, _*_, _/_, _%_, _^_, _<_, _≤_, zero-le}
-use native.Mathlib.Nat.{pow-suc, pow-le-pow-right, div-div-eq-div-mul, zero-lt-suc, add-zero, sub-self, sub-zero, div-one}
+use mathlib.Core.Path.{_≡_, refl, sym, ap, ap₂, _∙_}
+use mathlib.Core.List.{List, _++_}
+use Prim.Native.Nat.{ℕ, suc, _+_, _-_, _*_, _/_, _%_, _^_, _<_, _≤_, zero-le}
+use native.Mathlib.Nat.{pow-suc, pow-le-pow-right, div-div-eq-div-mul, zero-lt-suc, add-zero, div-one}
 use native.Mathlib.Numerals.{add-one}
 use native.Mathlib.Omega.{arith}
 use lib.ListN.{length, take, drop, getD, set, length-drop, length-set, take-append-drop}
 use lib.Seq.{take-suc, getD-drop}
-use Rattle.ground.specs.Words.{number, bytesOf, number-snoc, length-bytesOf}
+use Rattle.ground.specs.Words.{number, bytesOf, number-snoc}
 use Rattle.ground.specs.Putting.{put, put-front}
 
 -- the first i bytes from a place on are in the value

@@ -1,11 +1,11 @@
 -- A copy over a part that is as long leaves the text itself.
 -- Assumes nothing.
 use mathlib.Core.Path.{_≡_, refl, ap, subst, _∙_}
-use mathlib.Core.List.{List, [], _++_, append-nil}
+use mathlib.Core.List.{List, _++_, append-nil}
 use Prim.Native.Nat.{ℕ, _+_, _<_, _≤_}
 use native.Mathlib.Nat.{zero-add}
 use native.Mathlib.Omega.{arith}
-use lib.ListN.{length, drop, set, getD, drop-of-length-le}
+use lib.ListN.{length, set, getD, drop-of-length-le}
 use Rattle.ground.specs.Putting.{put, Copied, copied-more}
 
 pub put-whole : (part text : List ℕ) → length part ≡ length text → put part 0 text ≡ text

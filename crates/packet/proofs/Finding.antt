@@ -1,15 +1,15 @@
 -- What the finder has in hand, as answers of the definition.
 -- Assumes nothing.
 use mathlib.Core.Path.{_≡_, refl, sym, ap, _∙_}
-use mathlib.Core.Bool.{Bool, true, false}
+use mathlib.Core.Bool.{true, false}
 use mathlib.Core.List.{List, []}
 use Prim.Native.Nat.{ℕ, _+_, _-_, _<_, _≤_, zero-le}
 use native.Mathlib.Nat.{sub-zero}
 use native.Mathlib.Omega.{arith}
 use borrow.Author.Tests.{lt-ltb, le-ltb}
 use lib.ListN.{length, take, drop}
-use Rattle.ground.specs.Paper.{Paper, accepted, refused, refusedWith}
-use Rattle.packet.specs.Meaning.{stands, failedBefore, findFrom, findMeans, headerMeans, apidAt, dataLength, payloadMeans, payloadStart, FoundValues, HeaderValues}
+use Rattle.ground.specs.Paper.{accepted, refused, refusedWith}
+use Rattle.packet.specs.Meaning.{stands, failedBefore, findFrom, findMeans, headerMeans, apidAt, dataLength, payloadMeans, payloadStart}
 use Rattle.packet.specs.Laws.{find-on, find-here, find-none, failed-more}
 
 -- the places before one are settled: none of them held a packet

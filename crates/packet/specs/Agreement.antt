@@ -1,9 +1,9 @@
 -- The data and the header say the same: "where that refuses, the part is empty".
 -- Assumes nothing.
-use mathlib.Core.Path.{_≡_, refl, sym, ap, _∙_}
+use mathlib.Core.Path.{_≡_, refl}
 use mathlib.Core.Bool.{Bool, true, false, not, _&&_}
 use mathlib.Core.List.{List, []}
-use Prim.Native.Nat.{ℕ, _+_, _≤_}
+use Prim.Native.Nat.{ℕ, _+_}
 use native.Mathlib.Omega.{arith}
 use denote.Ref.{RefT}
 use lib.ListN.{length, take, drop, length-take, length-drop}
@@ -12,7 +12,7 @@ use Rattle.ground.specs.Paper.{Paper, accepted, refused, refusedWith}
 use Rattle.packet.specs.declared.Headed.{Headed}
 use Rattle.packet.specs.Answers.{headedPaper}
 use Rattle.packet.specs.Promise.{HeaderPromise, PayloadPromise}
-use Rattle.packet.specs.Meaning.{tooLong, stands, dataLength, apidAt, headerMeans, handed, payloadMeans, payloadStart, HeaderValues}
+use Rattle.packet.specs.Meaning.{tooLong, stands, dataLength, apidAt, headerMeans, payloadMeans, payloadStart, HeaderValues}
 use Rattle.packet.specs.Laws.{Standing, standing}
 
 -- what the header's answer says of the part: empty on a refusal; n bytes from 8 after the place where it answers n

@@ -1,19 +1,18 @@
 -- What holds where a packet stands, and how finding goes on: what callers cite.
 -- Assumes nothing.
-use mathlib.Core.Path.{_≡_, refl, sym, ap, ap₂, _∙_, subst}
-use mathlib.Core.Bool.{Bool, true, false, _&&_}
+use mathlib.Core.Path.{_≡_}
+use mathlib.Core.Bool.{true, false}
 use mathlib.Core.List.{List}
 use Prim.Native.Nat.{ℕ, suc, _+_, _-_, _<_, _≤_}
 use native.Mathlib.Numerals.{add-one}
 use native.Mathlib.Omega.{arith}
 use borrow.Author.Tests.{leb-true, ltb-true, eqb-true, le-leb, lt-ltb, eq-eqb}
-use lib.Dec.{leb, ltb, eqb}
 use lib.ListN.{length, take, drop}
 use Rattle.ground.specs.Questions.{both-hold}
-use Rattle.ground.specs.Paper.{Paper, accepted, refused, refusedWith}
+use Rattle.ground.specs.Paper.{accepted, refusedWith}
 use Rattle.ground.specs.Words.{wordAt}
 use Rattle.crc.specs.Meaning.{checksumOf}
-use Rattle.packet.specs.Meaning.{marked, sized, dataLength, checked, stands, failedBefore, findFrom, FoundValues}
+use Rattle.packet.specs.Meaning.{marked, dataLength, stands, failedBefore, findFrom}
 
 -- mark, length and checksum agree at a place
 pub record Standing (l : List ℕ) (at : ℕ) : Type 0 where

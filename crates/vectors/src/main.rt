@@ -1,8 +1,6 @@
-// What the exported calls do not reach, run on stored records: the reader of packed codes, and the numbers of the answers. A
-// record is what is asked for, a drop, how many bytes it has, a bit position in eight bytes, and those bytes. What must be printed
-// comes from tests/reference.
+// What the exported calls do not reach, run on stored records: the reader of packed codes. A record is what is asked for, a drop,
+// how many bytes it has, a bit position in eight bytes, and those bytes. What must be printed comes from tests/reference.
 mod codes;
-mod numbers;
 mod say;
 
 use libc::STDIN_FILENO;
@@ -37,12 +35,11 @@ fn one(room: &mut [u8]) -> bool {
     true
 }
 
-// Prints what a record asks for: a code, a run of codes, or the numbers of an answer.
+// Prints what a record asks for: a code, or a run of codes.
 fn answer(head: &[u8; 11], bytes: &[u8]) {
     match head[0] {
         b'r' => codes::read(bytes, position(head), head[1]),
         b'm' => codes::run(bytes, position(head), head[1]),
-        b'n' => numbers::of(head[1]),
         _ => (),
     }
 }

@@ -35,15 +35,5 @@ returns c = c .last .ensures ∙ c .before .before .loop .inv .2
 pub rest-spec : {M : Type 1} → statement M
 rest-spec =
     tie.close
-    (tie.spec
-    Inv-loop
-    μ-loop
-    (λ c. search needs)
-    (λ c. search needs)
-    (λ c κs. search needs)
-    joined-requires
-    (λ c. search needs)
-    (λ c. search needs)
-    loop-again
-    (λ c κs. search needs)
-    returns)
+    (tie.spec Inv-loop μ-loop (λ c. search needs) (λ c. search needs) (λ c κs. search needs) joined-requires (λ c. search needs) (λ c. search needs)
+    loop-again (λ c κs. search needs) returns)

@@ -16,5 +16,4 @@ returns c =
     (first .ensures) (second .ensures) (third .ensures)
 
 pub shifted-spec : {M : Type 1} → statement M
-shifted-spec =
-    tie.close (tie.spec (λ c κs. search needs) (λ c κs. search needs) (λ c κs. search needs) (λ c κs. search needs) returns)
+shifted-spec = tie.close (tie.spec (λ c κs. search needs) (λ c κs. search needs) (λ c κs. search needs) (λ c κs. search needs) returns)

@@ -15,5 +15,4 @@ returns c =
     (low .ensures) (c .shifted2 .ensures)
 
 pub through-spec : {M : Type 1} → statement M
-through-spec =
-    tie.close (tie.spec (λ c κs. search needs) (λ c κs. search needs) (λ c κs. search needs) (λ c κs. search needs) returns)
+through-spec = tie.close (tie.spec (λ c κs. search needs) (λ c κs. search needs) (λ c κs. search needs) (λ c κs. search needs) returns)

@@ -11,5 +11,4 @@ returns c =
     word-goes (a .bytes .now) (a .at) (c .before .pair .result) (c .pair2 .result) (c .before .pair .ensures) (c .pair2 .ensures)
 
 pub word-spec : {M : Type 1} → statement M
-word-spec =
-    tie.close (tie.spec (λ c κs. search needs) (λ c. search needs) (λ c. search needs) (λ c κs. search needs) (λ c. search needs) returns)
+word-spec = tie.close (tie.spec (λ c κs. search needs) (λ c. search needs) (λ c. search needs) (λ c κs. search needs) (λ c. search needs) returns)

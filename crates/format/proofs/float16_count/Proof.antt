@@ -13,5 +13,4 @@ returns-2 : tie.Need-returns-2
 returns-2 c = record { answer = c .doubled .ensures ∙ raised 12 (c .before .before .args .code) (c .before .if1 .left) }
 
 pub float16-count-spec : {M : Type 1} → statement M
-float16-count-spec =
-    tie.close (tie.spec returns (λ c. search needs) (λ c. search needs) (λ c κs. search needs) returns-2)
+float16-count-spec = tie.close (tie.spec returns (λ c. search needs) (λ c. search needs) (λ c κs. search needs) returns-2)

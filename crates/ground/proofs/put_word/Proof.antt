@@ -25,14 +25,5 @@ returns-2 c = put-away (c .before .lies-in .ensures) (c .before .before .before 
 pub put-word-spec : {M : Type 1} → statement M
 put-word-spec =
     tie.close
-    (tie.spec
-    (λ c κs. search needs)
-    (λ c. search needs)
-    slice-write-buffer
-    (λ c. search needs)
-    add-buffer
-    slice-write-buffer-2
-    (λ c. search needs)
-    returns
-    (λ c. search needs)
-    returns-2)
+    (tie.spec (λ c κs. search needs) (λ c. search needs) slice-write-buffer (λ c. search needs) add-buffer slice-write-buffer-2 (λ c. search needs)
+    returns (λ c. search needs) returns-2)

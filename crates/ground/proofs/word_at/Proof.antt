@@ -25,14 +25,5 @@ returns-2 c = word-away (c .before .lies-in .ensures) (c .if1 .left)
 pub word-at-spec : {M : Type 1} → statement M
 word-at-spec =
     tie.close
-    (tie.spec
-    (λ c κs. search needs)
-    shared-slice-read-wide
-    (λ c κs. search needs)
-    add-wide
-    shared-slice-read-wide-2
-    (λ c κs. search needs)
-    (λ c. search needs)
-    (λ c. search needs)
-    returns
-    returns-2)
+    (tie.spec (λ c κs. search needs) shared-slice-read-wide (λ c κs. search needs) add-wide shared-slice-read-wide-2 (λ c κs. search needs)
+    (λ c. search needs) (λ c. search needs) returns returns-2)

@@ -21,5 +21,4 @@ returns-3 c =
     fits-last (a .words) (a .state .now) (d .if1 .left) (passed (c .before .before .sized .ensures .answer) (c .before .if2 .left))
 
 pub fitting-spec : {M : Type 1} → statement M
-fitting-spec =
-    tie.close (tie.spec returns (λ c κs. search needs) returns-2 (λ c. search needs) returns-3)
+fitting-spec = tie.close (tie.spec returns (λ c κs. search needs) returns-2 (λ c. search needs) returns-3)

@@ -33,12 +33,5 @@ returns-2 c =
 pub flip-spec : {M : Type 1} → statement M
 flip-spec =
     tie.close
-    (tie.spec
-    (λ c κs. search needs)
-    (λ c. search needs)
-    returns
-    idle-page-requires
-    (λ c κs. search needs)
-    slice-write-state
-    (λ c. search needs)
+    (tie.spec (λ c κs. search needs) (λ c. search needs) returns idle-page-requires (λ c κs. search needs) slice-write-state (λ c. search needs)
     returns-2)

@@ -29,11 +29,4 @@ returns-2 c =
 pub increment-spec : {M : Type 1} → statement M
 increment-spec =
     tie.close
-    (tie.spec
-    (λ c κs. search needs)
-    returns
-    active-page-requires
-    (λ c κs. search needs)
-    (λ c κs. search needs)
-    (λ c. search needs)
-    returns-2)
+    (tie.spec (λ c κs. search needs) returns active-page-requires (λ c κs. search needs) (λ c κs. search needs) (λ c. search needs) returns-2)

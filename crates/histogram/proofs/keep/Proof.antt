@@ -34,19 +34,6 @@ returns c = (refl, rw (c .flag .ensures))
 pub keep-spec : {M : Type 1} → statement M
 keep-spec =
     tie.close
-    (tie.spec
-    (λ c. search needs)
-    slice-write-state-2
-    (λ c. search needs)
-    slice-write-state-3
-    (λ c. search needs)
-    slice-write-state-4
-    (λ c. search needs)
-    slice-write-state-5
-    (λ c. search needs)
-    slice-write-state-6
-    (λ c κs. search needs)
-    slice-write-state-7
-    slice-write-state-8
-    (λ c. search needs)
-    returns)
+    (tie.spec (λ c. search needs) slice-write-state-2 (λ c. search needs) slice-write-state-3 (λ c. search needs) slice-write-state-4
+    (λ c. search needs) slice-write-state-5 (λ c. search needs) slice-write-state-6 (λ c κs. search needs) slice-write-state-7 slice-write-state-8
+    (λ c. search needs) returns)

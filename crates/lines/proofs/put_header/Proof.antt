@@ -15,5 +15,4 @@ returns-2 : tie.Need-returns-2
 returns-2 c = header-put (search needs) (c .before .before .put-text .ensures)
 
 pub put-header-spec : {M : Type 1} → statement M
-put-header-spec =
-    tie.close (tie.spec (λ c. search needs) (λ c κs. search needs) returns (λ c. search needs) returns-2)
+put-header-spec = tie.close (tie.spec (λ c. search needs) (λ c κs. search needs) returns (λ c. search needs) returns-2)

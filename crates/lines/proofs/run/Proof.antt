@@ -60,19 +60,5 @@ returns-2 c = running-over (c .before .loop .inv) (c .loop-test .left)
 pub run-spec : {M : Type 1} → statement M
 run-spec =
     tie.close
-    (tie.spec
-    Inv-loop
-    μ-loop
-    loop-holds
-    (λ c. search needs)
-    may-go-requires
-    (λ c. search needs)
-    put-said-requires
-    (λ c κs. search needs)
-    (λ c. search needs)
-    loop-less
-    loop-again
-    same-length
-    returns
-    same-length-2
-    returns-2)
+    (tie.spec Inv-loop μ-loop loop-holds (λ c. search needs) may-go-requires (λ c. search needs) put-said-requires (λ c κs. search needs)
+    (λ c. search needs) loop-less loop-again same-length returns same-length-2 returns-2)

@@ -1,6 +1,6 @@
 -- `lines::taken` meets its contract.
 -- Assumes nothing.
-use mathlib.Core.Path.{sym, _∙_}
+use mathlib.Core.Path.{_∙_}
 use borrow.Author.Needs.{needs}
 use Rattle.lines.proofs.Bytes.{step-later, step-minus, step-first}
 use Rattle.lines.proofs.taken.Statement.{statement}
@@ -19,5 +19,4 @@ returns-3 c = record {
 }
 
 pub taken-spec : {M : Type 1} → statement M
-taken-spec =
-    tie.close (tie.spec (λ c κs. search needs) returns (λ c κs. search needs) returns-2 returns-3)
+taken-spec = tie.close (tie.spec (λ c κs. search needs) returns (λ c κs. search needs) returns-2 returns-3)

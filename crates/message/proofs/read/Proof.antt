@@ -1,13 +1,12 @@
 -- `message::read` meets its contract: the tests one after the other.
 -- Assumes nothing.
 use Prim.Native.Nat.{ℕ, _+_, _/_, _%_, _^_}
-use mathlib.Core.Path.{_≡_, ap, ap₂, _∙_}
-use native.Mathlib.Omega.{arith}
+use mathlib.Core.Path.{ap, ap₂, _∙_}
 use borrow.Author.Needs.{needs}
 use Rattle.ground.specs.Paper.{accepted}
 use Rattle.ground.specs.Questions.{answered-no, answered-yes}
 use Rattle.ground.specs.Laws.{word-there}
-use Rattle.message.specs.Meaning.{dataSize, ReadValues}
+use Rattle.message.specs.Meaning.{dataSize}
 use Rattle.message.specs.Laws.{read-short, read-unmarked, read-cut, read-unsummed, read-so}
 use Rattle.message.proofs.Tags.{unmarked-first, unmarked-second, marked-both}
 use Rattle.message.proofs.read.Statement.{statement}
@@ -47,19 +46,5 @@ returns-6 c =
 pub read-spec : {M : Type 1} → statement M
 read-spec =
     tie.close
-    (tie.spec
-    returns
-    (λ c. search needs)
-    returns-2
-    (λ c. search needs)
-    returns-3
-    (λ c κs. search needs)
-    (λ c. search needs)
-    (λ c κs. search needs)
-    (λ c. search needs)
-    returns-4
-    (λ c κs. search needs)
-    returns-5
-    (λ c κs. search needs)
-    (λ c. search needs)
-    returns-6)
+    (tie.spec returns (λ c. search needs) returns-2 (λ c. search needs) returns-3 (λ c κs. search needs) (λ c. search needs) (λ c κs. search needs)
+    (λ c. search needs) returns-4 (λ c κs. search needs) returns-5 (λ c κs. search needs) (λ c. search needs) returns-6)

@@ -6,7 +6,7 @@ use mathlib.Core.Path.{_≡_, refl, sym, ap, _∙_}
 use native.Mathlib.Omega.{arith}
 use borrow.Author.Needs.{needs}
 use lib.ListN.{take, drop}
-use Rattle.packet.proofs.Finding.{Empty, empty-long, empty-none, Data, data-here}
+use Rattle.packet.proofs.Finding.{empty-long, empty-none, data-here}
 use Rattle.packet.proofs.payload.Statement.{statement}
 use Rattle.packet.proofs.payload.Tie as tie
 
@@ -41,17 +41,5 @@ returns-3 c =
 pub payload-spec : {M : Type 1} → statement M
 payload-spec =
     tie.close
-    (tie.spec
-    (λ c. search needs)
-    returns
-    (λ c κs. search needs)
-    data-length-requires
-    (λ c. search needs)
-    (λ c. search needs)
-    (λ c. search needs)
-    (λ c. search needs)
-    (λ c. search needs)
-    (λ c. search needs)
-    (λ c. search needs)
-    returns-2
-    returns-3)
+    (tie.spec (λ c. search needs) returns (λ c κs. search needs) data-length-requires (λ c. search needs) (λ c. search needs) (λ c. search needs)
+    (λ c. search needs) (λ c. search needs) (λ c. search needs) (λ c. search needs) returns-2 returns-3)

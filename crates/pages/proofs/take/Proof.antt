@@ -34,15 +34,5 @@ returns-3 c =
 pub take-spec : {M : Type 1} → statement M
 take-spec =
     tie.close
-    (tie.spec
-    (λ c κs. search needs)
-    (λ c. search needs)
-    walk-rows-requires
-    (λ c. search needs)
-    (λ c. search needs)
-    (λ c. search needs)
-    returns
-    (λ c. search needs)
-    returns-2
-    (λ c. search needs)
-    returns-3)
+    (tie.spec (λ c κs. search needs) (λ c. search needs) walk-rows-requires (λ c. search needs) (λ c. search needs) (λ c. search needs) returns
+    (λ c. search needs) returns-2 (λ c. search needs) returns-3)

@@ -28,6 +28,4 @@ returns-2 c =
     record { answer = unpack-refuses (now (a .bytes)) (a .at) (a .drop) (sym (t .ensures) ∙ c .if1 .left) }
 
 pub unpack-spec : {M : Type 1} → statement M
-unpack-spec =
-    tie.close
-    (tie.spec (λ c κs. search needs) (λ c κs. search needs) (λ c κs. search needs) code-requires returns returns-2)
+unpack-spec = tie.close (tie.spec (λ c κs. search needs) (λ c κs. search needs) (λ c κs. search needs) code-requires returns returns-2)

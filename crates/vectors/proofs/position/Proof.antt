@@ -1,7 +1,6 @@
 -- `vectors::position` is safe and ends: the measure is the number of bytes that are left.
 -- Assumes nothing.
 use Prim.Native.Nat.{_-_, _≤_}
-use native.Mathlib.Omega.{arith}
 use borrow.Author.Needs.{needs}
 use Rattle.vectors.proofs.position.Statement.{statement}
 use Rattle.vectors.proofs.position.Tie as tie
@@ -15,13 +14,5 @@ abbrev μ-loop : tie.MeasureT-loop
 pub position-spec : {M : Type 1} → statement M
 position-spec =
     tie.close
-    (tie.spec
-    Inv-loop
-    μ-loop
-    (λ c. search needs)
-    (λ c. search needs)
-    (λ c κs. search needs)
-    (λ c. search needs)
-    (λ c. search needs)
-    (λ c. search needs)
-    (λ c. search needs))
+    (tie.spec Inv-loop μ-loop (λ c. search needs) (λ c. search needs) (λ c κs. search needs) (λ c. search needs) (λ c. search needs)
+    (λ c. search needs) (λ c. search needs))

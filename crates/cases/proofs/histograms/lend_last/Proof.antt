@@ -12,11 +12,5 @@ slice-aggregate-last-counter c = simp length-take (omega arith)
 pub lend-last-spec : {M : Type 1} → statement M
 lend-last-spec =
     tie.close
-    (tie.spec
-    (λ c. search needs)
-    slice-aggregate-last-counter
-    (λ c κs. search needs)
-    (λ c. search needs)
-    (λ c. search needs)
-    (λ c. search needs)
+    (tie.spec (λ c. search needs) slice-aggregate-last-counter (λ c κs. search needs) (λ c. search needs) (λ c. search needs) (λ c. search needs)
     (λ c. search needs))

@@ -12,11 +12,5 @@ slice-aggregate-three c = simp length-take (omega arith)
 pub lend-three-spec : {M : Type 1} → statement M
 lend-three-spec =
     tie.close
-    (tie.spec
-    (λ c. search needs)
-    slice-aggregate-three
-    (λ c κs. search needs)
-    (λ c. search needs)
-    (λ c. search needs)
-    (λ c. search needs)
+    (tie.spec (λ c. search needs) slice-aggregate-three (λ c κs. search needs) (λ c. search needs) (λ c. search needs) (λ c. search needs)
     (λ c. search needs))

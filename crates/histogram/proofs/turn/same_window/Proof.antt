@@ -8,19 +8,6 @@ use Rattle.histogram.proofs.turn.same_window.Tie as tie
 pub same-window-spec : {M : Type 1} → statement M
 same-window-spec =
     tie.close
-    (tie.spec
-    (λ c. search needs)
-    (λ c. search needs)
-    (λ c. search tests)
-    (λ c. search needs)
-    (λ c. search needs)
-    (λ c. search tests)
-    (λ c. search needs)
-    (λ c. search needs)
-    (λ c. search tests)
-    (λ c. search needs)
-    (λ c. search needs)
-    (λ c. search tests)
-    (λ c. search needs)
-    (λ c κs. search needs)
-    (λ c. search tests))
+    (tie.spec (λ c. search needs) (λ c. search needs) (λ c. search tests) (λ c. search needs) (λ c. search needs) (λ c. search tests)
+    (λ c. search needs) (λ c. search needs) (λ c. search tests) (λ c. search needs) (λ c. search needs) (λ c. search tests) (λ c. search needs)
+    (λ c κs. search needs) (λ c. search tests))

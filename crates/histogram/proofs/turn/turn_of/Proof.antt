@@ -21,5 +21,4 @@ returns-3 c =
     not-first (a .state .now) (a .number) (a .window) (c .before .if1 .left) (c .if2 .left)
 
 pub turn-of-spec : {M : Type 1} → statement M
-turn-of-spec =
-    tie.close (tie.spec (λ c. search needs) (λ c κs. search needs) returns returns-2 returns-3)
+turn-of-spec = tie.close (tie.spec (λ c. search needs) (λ c κs. search needs) returns returns-2 returns-3)

@@ -41,13 +41,5 @@ returns-2 c = answer-refused (c .before .before .before .before .before .before 
 pub put-line-spec : {M : Type 1} → statement M
 put-line-spec =
     tie.close
-    (tie.spec
-    (λ c κs. search needs)
-    number-of-requires
-    put-number-requires
-    (λ c. search needs)
-    (λ c κs. search needs)
-    (λ c. search needs)
-    returns
-    (λ c. search needs)
-    returns-2)
+    (tie.spec (λ c κs. search needs) number-of-requires put-number-requires (λ c. search needs) (λ c κs. search needs) (λ c. search needs) returns
+    (λ c. search needs) returns-2)

@@ -2,7 +2,7 @@
 -- Assumes nothing.
 use native.Mathlib.Omega.{arith}
 use borrow.Author.Needs.{needs}
-use Rattle.lines.proofs.Bytes.{Takes, takes}
+use Rattle.lines.proofs.Bytes.{takes}
 use Rattle.lines.proofs.byte.with_digit.Statement.{statement}
 use Rattle.lines.proofs.byte.with_digit.Tie as tie
 

@@ -13,12 +13,4 @@ returns : tie.Need-returns
 returns c = header-all (c .before .before .before .put-header .ensures) (search needs) (c .handed .ensures)
 
 pub print-header-spec : {M : Type 1} → statement M
-print-header-spec =
-    tie.close
-    (tie.spec
-    (λ c κs. search needs)
-    (λ c. search needs)
-    (λ c κs. search needs)
-    (λ c. search needs)
-    handed-requires
-    returns)
+print-header-spec = tie.close (tie.spec (λ c κs. search needs) (λ c. search needs) (λ c κs. search needs) (λ c. search needs) handed-requires returns)

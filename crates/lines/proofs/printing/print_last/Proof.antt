@@ -15,11 +15,4 @@ returns c = last-all (c .before .before .before .put-answer .ensures) (search ne
 pub print-last-spec : {M : Type 1} → statement M
 print-last-spec =
     tie.close
-    (tie.spec
-    (λ c κs. search needs)
-    (λ c. search needs)
-    (λ c κs. search needs)
-    (λ c. search needs)
-    handed-requires
-    returns
-    (λ c. search needs))
+    (tie.spec (λ c κs. search needs) (λ c. search needs) (λ c κs. search needs) (λ c. search needs) handed-requires returns (λ c. search needs))

@@ -58,17 +58,5 @@ returns c = all-taken (c .before .before .before .before .args .piece .now) (c .
 pub print-runs-spec : {M : Type 1} → statement M
 print-runs-spec =
     tie.close
-    (tie.spec
-    Inv-loop
-    μ-loop
-    (λ c. search needs)
-    (λ c. search needs)
-    (λ c. search needs)
-    (λ c. search needs)
-    (λ c κs. search needs)
-    handed-requires
-    add-at
-    loop-less
-    loop-again
-    same-length
-    returns)
+    (tie.spec Inv-loop μ-loop (λ c. search needs) (λ c. search needs) (λ c. search needs) (λ c. search needs) (λ c κs. search needs) handed-requires
+    add-at loop-less loop-again same-length returns)

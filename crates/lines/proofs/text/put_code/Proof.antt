@@ -30,11 +30,4 @@ returns c = code-put refl (toZ-ofZ w32 (c .before .before .before .before .befor
 pub put-code-spec : {M : Type 1} → statement M
 put-code-spec =
     tie.close
-    (tie.spec
-    (λ c. search needs)
-    (λ c κs. search needs)
-    (λ c. search needs)
-    (λ c κs. search needs)
-    put-bits-requires
-    (λ c. search needs)
-    returns)
+    (tie.spec (λ c. search needs) (λ c κs. search needs) (λ c. search needs) (λ c κs. search needs) put-bits-requires (λ c. search needs) returns)

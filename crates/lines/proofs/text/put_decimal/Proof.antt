@@ -25,12 +25,4 @@ returns c = decimal-put (c .before .before .before .before .before .decimal .ens
     (c .before .before .put-text .ensures)
 
 pub put-decimal-spec : {M : Type 1} → statement M
-put-decimal-spec =
-    tie.close
-    (tie.spec
-    (λ c κs. search needs)
-    (λ c. search needs)
-    (λ c. search needs)
-    put-text-requires
-    (λ c. search needs)
-    returns)
+put-decimal-spec = tie.close (tie.spec (λ c κs. search needs) (λ c. search needs) (λ c. search needs) put-text-requires (λ c. search needs) returns)

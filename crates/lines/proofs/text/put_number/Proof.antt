@@ -71,12 +71,4 @@ returns c =
     (first .put-spaced .ensures .0) (second .put-spaced2 .ensures .0) (c .before .before .put-byte .ensures .0)
 
 pub put-number-spec : {M : Type 1} → statement M
-put-number-spec =
-    tie.close
-    (tie.spec
-    (λ c κs. search needs)
-    put-spaced-requires
-    put-spaced-requires-2
-    put-byte-requires
-    (λ c. search needs)
-    returns)
+put-number-spec = tie.close (tie.spec (λ c κs. search needs) put-spaced-requires put-spaced-requires-2 put-byte-requires (λ c. search needs) returns)

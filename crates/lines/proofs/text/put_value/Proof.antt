@@ -56,14 +56,5 @@ returns-2 c = value-plus _ (c .before .before .before .before .before .before .b
 pub put-value-spec : {M : Type 1} → statement M
 put-value-spec =
     tie.close
-    (tie.spec
-    (λ c κs. search needs)
-    (λ c κs. search needs)
-    (λ c κs. search needs)
-    put-decimal-requires
-    (λ c κs. search needs)
-    put-decimal-requires-2
-    (λ c. search needs)
-    returns
-    (λ c. search needs)
-    returns-2)
+    (tie.spec (λ c κs. search needs) (λ c κs. search needs) (λ c κs. search needs) put-decimal-requires (λ c κs. search needs) put-decimal-requires-2
+    (λ c. search needs) returns (λ c. search needs) returns-2)

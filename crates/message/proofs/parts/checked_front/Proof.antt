@@ -16,6 +16,4 @@ returns : tie.Need-returns
 returns c = ap₂ eqb (c .before .checksum .ensures .answer) (word-there (c .word-at .ensures) (search needs))
 
 pub checked-front-spec : {M : Type 1} → statement M
-checked-front-spec =
-    tie.close
-    (tie.spec (λ c. search needs) slice-aggregate-checksum (λ c κs. search needs) (λ c κs. search needs) returns)
+checked-front-spec = tie.close (tie.spec (λ c. search needs) slice-aggregate-checksum (λ c κs. search needs) (λ c κs. search needs) returns)

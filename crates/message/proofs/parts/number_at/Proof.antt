@@ -1,10 +1,8 @@
 -- `message::number_at` meets its contract. The loop's invariant: the bytes passed are in the value.
 -- Assumes nothing.
 use Prim.Native.Nat.{_-_}
-use mathlib.Core.Path.{sym, ap, _∙_}
 use native.Mathlib.Omega.{arith}
 use borrow.Author.Needs.{needs}
-use Rattle.ground.specs.Words.{number}
 use Rattle.message.proofs.Numbers.{Summed, summed-none, summed-more, summed-all, room}
 use Rattle.message.proofs.parts.number_at.Statement.{statement}
 use Rattle.message.proofs.parts.number_at.Tie as tie
@@ -33,16 +31,5 @@ returns c = summed-all (c .before .loop .inv) (search needs)
 pub number-at-spec : {M : Type 1} → statement M
 number-at-spec =
     tie.close
-    (tie.spec
-    Inv-loop
-    μ-loop
-    loop-holds
-    mul-value
-    (λ c. search needs)
-    (λ c. search needs)
-    (λ c κs. search needs)
-    add-value
-    (λ c. search needs)
-    (λ c. search needs)
-    loop-again
-    returns)
+    (tie.spec Inv-loop μ-loop loop-holds mul-value (λ c. search needs) (λ c. search needs) (λ c κs. search needs) add-value (λ c. search needs)
+    (λ c. search needs) loop-again returns)

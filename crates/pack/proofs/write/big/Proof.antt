@@ -32,18 +32,5 @@ returns c =
 pub big-spec : {M : Type 1} → statement M
 big-spec =
     tie.close
-    (tie.spec
-    (λ c κs. search needs)
-    (λ c. search needs)
-    (λ c. search needs)
-    (λ c. search needs)
-    sub-width
-    (λ c. search needs)
-    add-below-2
-    below-requires
-    (λ c. search needs)
-    (λ c. search needs)
-    join-requires
-    (λ c. search needs)
-    (λ c κs. search needs)
-    returns)
+    (tie.spec (λ c κs. search needs) (λ c. search needs) (λ c. search needs) (λ c. search needs) sub-width (λ c. search needs) add-below-2
+    below-requires (λ c. search needs) (λ c. search needs) join-requires (λ c. search needs) (λ c κs. search needs) returns)

@@ -69,19 +69,5 @@ returns-4 c =
 pub code-spec : {M : Type 1} → statement M
 code-spec =
     tie.close
-    (tie.spec
-    (λ c κs. search needs)
-    returns
-    shr-coded
-    cast-coded
-    sub-coded
-    coded-requires
-    returns-2
-    add-coded
-    shr-coded-2
-    cast-coded-2
-    sub-coded-2
-    coded-requires-2
-    returns-3
-    (λ c κs. search needs)
-    returns-4)
+    (tie.spec (λ c κs. search needs) returns shr-coded cast-coded sub-coded coded-requires returns-2 add-coded shr-coded-2 cast-coded-2 sub-coded-2
+    coded-requires-2 returns-3 (λ c κs. search needs) returns-4)

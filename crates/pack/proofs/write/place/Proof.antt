@@ -50,16 +50,5 @@ returns-3 c =
 pub place-spec : {M : Type 1} → statement M
 place-spec =
     tie.close
-    (tie.spec
-    (λ c κs. search needs)
-    (λ c. search needs)
-    returns
-    (λ c. search needs)
-    returns-2
-    add-next
-    (λ c κs. search needs)
-    join-requires
-    (λ c. search needs)
-    put-requires
-    (λ c. search needs)
-    returns-3)
+    (tie.spec (λ c κs. search needs) (λ c. search needs) returns (λ c. search needs) returns-2 add-next (λ c κs. search needs) join-requires
+    (λ c. search needs) put-requires (λ c. search needs) returns-3)

@@ -85,17 +85,5 @@ returns c =
 pub put-bytes-spec : {M : Type 1} → statement M
 put-bytes-spec =
     tie.close
-    (tie.spec
-    Inv-loop
-    μ-loop
-    loop-holds
-    eight-of-requires
-    sub-left
-    cast-put-byte
-    shr-put-byte
-    put-byte-requires
-    add-i
-    loop-less
-    loop-again
-    same-length
-    returns)
+    (tie.spec Inv-loop μ-loop loop-holds eight-of-requires sub-left cast-put-byte shr-put-byte put-byte-requires add-i loop-less loop-again
+    same-length returns)

@@ -30,12 +30,5 @@ returns c =
 pub put-part-spec : {M : Type 1} → statement M
 put-part-spec =
     tie.close
-    (tie.spec
-    slice-read-byte-wide
-    (λ c κs. search needs)
-    (λ c κs. search needs)
-    filled-requires
-    (λ c. search needs)
-    slice-write-buffer
-    (λ c. search needs)
-    returns)
+    (tie.spec slice-read-byte-wide (λ c κs. search needs) (λ c κs. search needs) filled-requires (λ c. search needs) slice-write-buffer
+    (λ c. search needs) returns)

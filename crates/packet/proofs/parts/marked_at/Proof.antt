@@ -8,15 +8,5 @@ use Rattle.packet.proofs.parts.marked_at.Tie as tie
 pub marked-at-spec : {M : Type 1} → statement M
 marked-at-spec =
     tie.close
-    (tie.spec
-    (λ c. search needs)
-    (λ c. search tests)
-    (λ c. search needs)
-    (λ c. search needs)
-    (λ c. search tests)
-    (λ c. search needs)
-    (λ c. search needs)
-    (λ c. search tests)
-    (λ c. search needs)
-    (λ c. search needs)
-    (λ c. search tests))
+    (tie.spec (λ c. search needs) (λ c. search tests) (λ c. search needs) (λ c. search needs) (λ c. search tests) (λ c. search needs)
+    (λ c. search needs) (λ c. search tests) (λ c. search needs) (λ c. search needs) (λ c. search tests))

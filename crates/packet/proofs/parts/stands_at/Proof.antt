@@ -1,6 +1,6 @@
 -- `packet::stands_at` meets its contract: the tests one after the other.
 -- Assumes nothing.
-use Prim.Native.Nat.{_+_, _-_}
+use Prim.Native.Nat.{_+_}
 use mathlib.Core.Path.{_∙_}
 use native.Mathlib.Omega.{arith}
 use borrow.Author.Needs.{needs}
@@ -41,18 +41,5 @@ returns-6 c = c .checked-at .ensures ∙ up-to-checksum (c .before .before .befo
 pub stands-at-spec : {M : Type 1} → statement M
 stands-at-spec =
     tie.close
-    (tie.spec
-    (λ c κs. search needs)
-    returns
-    marked-at-requires
-    returns-2
-    add-word-at
-    (λ c κs. search needs)
-    (λ c. search needs)
-    returns-3
-    returns-4
-    (λ c. search needs)
-    (λ c κs. search needs)
-    returns-5
-    checked-at-requires
-    returns-6)
+    (tie.spec (λ c κs. search needs) returns marked-at-requires returns-2 add-word-at (λ c κs. search needs) (λ c. search needs) returns-3 returns-4
+    (λ c. search needs) (λ c κs. search needs) returns-5 checked-at-requires returns-6)

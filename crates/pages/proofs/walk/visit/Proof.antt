@@ -18,12 +18,4 @@ returns-2 c = (refl, omega (arith, c .before .slice-known .given (c .before .bef
 pub visit-spec : {M : Type 1} → statement M
 visit-spec =
     tie.close
-    (tie.spec
-    (λ c. search needs)
-    (λ c. search needs)
-    cast-word
-    (λ c. search needs)
-    (λ c. search needs)
-    (λ c. search needs)
-    returns
-    returns-2)
+    (tie.spec (λ c. search needs) (λ c. search needs) cast-word (λ c. search needs) (λ c. search needs) (λ c. search needs) returns returns-2)

@@ -61,16 +61,5 @@ returns c =
 pub walk-row-spec : {M : Type 1} → statement M
 walk-row-spec =
     tie.close
-    (tie.spec
-    Inv-loop
-    μ-loop
-    loop-holds
-    add-place
-    place-requires
-    (λ c κs. search needs)
-    add-total
-    add-column
-    loop-less
-    loop-again
-    same-length
+    (tie.spec Inv-loop μ-loop loop-holds add-place place-requires (λ c κs. search needs) add-total add-column loop-less loop-again same-length
     returns)

@@ -70,18 +70,5 @@ returns c =
 pub walk-rows-spec : {M : Type 1} → statement M
 walk-rows-spec =
     tie.close
-    (tie.spec
-    Inv-loop
-    μ-loop
-    (λ c. search needs)
-    (λ c. search needs)
-    (λ c. search needs)
-    (λ c. search needs)
-    loop-holds
-    row-start-requires
-    walk-row-requires
-    add-row
-    loop-less
-    loop-again
-    same-length
-    returns)
+    (tie.spec Inv-loop μ-loop (λ c. search needs) (λ c. search needs) (λ c. search needs) (λ c. search needs) loop-holds row-start-requires
+    walk-row-requires add-row loop-less loop-again same-length returns)

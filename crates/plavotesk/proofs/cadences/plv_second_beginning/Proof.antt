@@ -12,4 +12,5 @@ returns-2 : tie.Need-returns-2
 returns-2 c = accepts-so _ levelPaper (c .before .before .before .beginning .ensures .answer) (c .before .answer .given .1) refl
 
 pub plv-second-beginning-spec : {M : Type 1} → statement M
-plv-second-beginning-spec = tie.close (tie.spec (λ c κs. search needs) (λ c. search needs) (λ c. search needs) (λ c κs. search needs) returns returns-2)
+plv-second-beginning-spec =
+    tie.close (tie.spec (λ c κs. search needs) (λ c. search needs) (λ c. search needs) (λ c κs. search needs) returns returns-2)

@@ -9,5 +9,4 @@ returns : tie.Need-returns
 returns c = leaves (c .before .before .before .flip .ensures .outcome) (c .flip-number .ensures)
 
 pub plv-histogram-flip-spec : {M : Type 1} → statement M
-plv-histogram-flip-spec =
-    tie.close (tie.spec (λ c κs. search needs) (λ c κs. search needs) (λ c. search needs) returns)
+plv-histogram-flip-spec = tie.close (tie.spec (λ c κs. search needs) (λ c κs. search needs) (λ c. search needs) returns)

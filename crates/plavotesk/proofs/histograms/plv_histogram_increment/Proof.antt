@@ -9,5 +9,4 @@ returns : tie.Need-returns
 returns c = leaves (c .before .before .before .increment .ensures .outcome) (c .increment-number .ensures)
 
 pub plv-histogram-increment-spec : {M : Type 1} → statement M
-plv-histogram-increment-spec =
-    tie.close (tie.spec (λ c κs. search needs) (λ c κs. search needs) (λ c. search needs) returns)
+plv-histogram-increment-spec = tie.close (tie.spec (λ c κs. search needs) (λ c κs. search needs) (λ c. search needs) returns)

@@ -9,5 +9,4 @@ returns : tie.Need-returns
 returns c = leaves (c .before .before .before .before .before .open .ensures .outcome) (c .open-number .ensures)
 
 pub plv-histogram-open-spec : {M : Type 1} → statement M
-plv-histogram-open-spec =
-    tie.close (tie.spec (λ c κs. search needs) (λ c κs. search needs) (λ c. search needs) (λ c. search needs) returns)
+plv-histogram-open-spec = tie.close (tie.spec (λ c κs. search needs) (λ c κs. search needs) (λ c. search needs) (λ c. search needs) returns)

@@ -36,5 +36,5 @@ returns-3 c =
 
 pub plv-packet-find-spec : {M : Type 1} → statement M
 plv-packet-find-spec =
-    tie.close (tie.spec (λ c κs. search needs) (λ c κs. search needs) (λ c. search needs) (λ c. search needs) (λ c. search needs)
-    returns returns-2 returns-3)
+    tie.close
+    (tie.spec (λ c κs. search needs) (λ c κs. search needs) (λ c. search needs) (λ c. search needs) (λ c. search needs) returns returns-2 returns-3)

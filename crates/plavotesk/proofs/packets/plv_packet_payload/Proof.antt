@@ -15,5 +15,4 @@ returns-2 : tie.Need-returns-2
 returns-2 c = part-data _ _ _ (c .before .payload .ensures .bytes) (c .if1 .left)
 
 pub plv-packet-payload-spec : {M : Type 1} → statement M
-plv-packet-payload-spec =
-    tie.close (tie.spec (λ c κs. search needs) add-start returns returns-2)
+plv-packet-payload-spec = tie.close (tie.spec (λ c κs. search needs) add-start returns returns-2)

@@ -14,6 +14,4 @@ returns-2 : tie.Need-returns-2
 returns-2 c = ap (λ (x : Reading). rateOf x (c .before .before .before .before .args .length)) (sym (c .before .reading2 .given .1))
 
 pub divided-spec : {M : Type 1} → statement M
-divided-spec =
-    tie.close
-    (tie.spec (λ c. search needs) (λ c. search needs) (λ c. search needs) returns returns-2)
+divided-spec = tie.close (tie.spec (λ c. search needs) (λ c. search needs) (λ c. search needs) returns returns-2)

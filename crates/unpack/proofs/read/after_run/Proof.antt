@@ -37,15 +37,5 @@ returns-4 c =
 pub after-run-spec : {M : Type 1} → statement M
 after-run-spec =
     tie.close
-    (tie.spec
-    (λ c κs. search needs)
-    returns
-    sub-normal
-    add-normal
-    normal-requires
-    returns-2
-    returns-3
-    (λ c κs. search needs)
-    (λ c. search needs)
-    (λ c κs. search needs)
-    returns-4)
+    (tie.spec (λ c κs. search needs) returns sub-normal add-normal normal-requires returns-2 returns-3 (λ c κs. search needs) (λ c. search needs)
+    (λ c κs. search needs) returns-4)

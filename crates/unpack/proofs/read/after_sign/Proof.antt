@@ -76,17 +76,5 @@ returns-3 c =
 pub after-sign-spec : {M : Type 1} → statement M
 after-sign-spec =
     tie.close
-    (tie.spec
-    Inv-loop
-    μ-loop
-    loop-holds
-    bit-requires
-    add-after-run
-    after-run-requires
-    returns
-    returns-2
-    add-ones
-    add-here
-    loop-less
-    loop-again
+    (tie.spec Inv-loop μ-loop loop-holds bit-requires add-after-run after-run-requires returns returns-2 add-ones add-here loop-less loop-again
     returns-3)

@@ -29,14 +29,5 @@ returns c =
 pub big-spec : {M : Type 1} → statement M
 big-spec =
     tie.close
-    (tie.spec
-    (λ c. search needs)
-    (λ c. search needs)
-    (λ c. search needs)
-    (λ c. search needs)
-    (λ c. search needs)
-    sub-normal
-    (λ c. search needs)
-    add-normal-5
-    normal-requires
-    returns)
+    (tie.spec (λ c. search needs) (λ c. search needs) (λ c. search needs) (λ c. search needs) (λ c. search needs) sub-normal (λ c. search needs)
+    add-normal-5 normal-requires returns)

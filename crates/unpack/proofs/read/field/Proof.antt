@@ -52,16 +52,4 @@ returns c =
 pub field-spec : {M : Type 1} → statement M
 field-spec =
     tie.close
-    (tie.spec
-    Inv-loop
-    μ-loop
-    (λ c. search needs)
-    mul-x
-    cast-bit-wide
-    add-bit-wide
-    bit-wide-requires
-    add-x
-    add-i
-    loop-less
-    loop-again
-    returns)
+    (tie.spec Inv-loop μ-loop (λ c. search needs) mul-x cast-bit-wide add-bit-wide bit-wide-requires add-x add-i loop-less loop-again returns)

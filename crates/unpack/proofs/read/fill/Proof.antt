@@ -20,6 +20,4 @@ returns-2 : tie.Need-returns-2
 returns-2 c = fill-shifts _ _ (search needs) (search needs) (c .before .pre .1)
 
 pub fill-spec : {M : Type 1} → statement M
-fill-spec =
-    tie.close
-    (tie.spec (λ c. search needs) (λ c. search needs) (λ c. search needs) sub-result-2 (λ c. search needs) returns returns-2)
+fill-spec = tie.close (tie.spec (λ c. search needs) (λ c. search needs) (λ c. search needs) sub-result-2 (λ c. search needs) returns returns-2)

@@ -35,13 +35,4 @@ returns-2 c =
 
 pub normal-spec : {M : Type 1} → statement M
 normal-spec =
-    tie.close
-    (tie.spec
-    (λ c. search needs)
-    returns
-    (λ c κs. search needs)
-    fill-requires
-    add-number
-    (λ c. search needs)
-    number-requires
-    returns-2)
+    tie.close (tie.spec (λ c. search needs) returns (λ c κs. search needs) fill-requires add-number (λ c. search needs) number-requires returns-2)
