@@ -1,16 +1,8 @@
--- Document 01's cases of the cadence, by computing.
+-- The hour's ends, by computing; document 01's starred case is in `demands`.
 -- Assumes nothing.
 use mathlib.Core.Path.{_≡_, refl}
 use Rattle.ground.specs.Paper.{accepted, refused}
 use Rattle.cadence.specs.Meaning.{secondsMeans, beginningMeans, endingMeans}
-
--- "Second 59: beginning 0"
-pub second-59-begins : beginningMeans 59 ≡ accepted 0
-second-59-begins = refl
-
--- "Second 59: .. ending 4"
-pub second-59-ends : endingMeans 59 ≡ accepted 4
-second-59-ends = refl
 
 -- every length divides 0: the hour's first second begins level 7
 pub second-0-begins : beginningMeans 0 ≡ accepted 7

@@ -14,10 +14,6 @@ differ-lt (suc zero) (suc zero) hx hy = zero-lt-suc 1
 differ-lt (suc zero) (suc (suc y)) hx hy = absurd (not-suc-le-zero (le-of-suc-le-suc (le-of-suc-le-suc hy)))
 differ-lt (suc (suc x)) y hx hy = absurd (not-suc-le-zero (le-of-suc-le-suc (le-of-suc-le-suc hx)))
 
-differ-zero : (x : ℕ) → differ x zero ≡ x
-differ-zero zero = refl
-differ-zero (suc x) = refl
-
 differ-assoc : (x y z : ℕ) → x < 2 → y < 2 → z < 2 → differ (differ x y) z ≡ differ x (differ y z)
 differ-assoc zero y z hx hy hz = refl
 differ-assoc (suc zero) zero z hx hy hz = refl

@@ -1,29 +1,10 @@
--- Document 01's cases of the plain formats, by computing.
+-- The last counts and the first ones past them, by computing; document 01's starred cases are in `demands`.
 -- Assumes nothing.
 use mathlib.Core.Path.{_≡_, refl}
 use Prim.Native.Nat.{_^_}
 use lib.Count.{leadingZeros}
 use Rattle.ground.specs.Paper.{accepted, refused}
-use Rattle.format.specs.Meaning.{floatValue, codeMeans, int24Means}
-
--- "16-bit: 8191 is 0x1FFF"
-pub float16-8191 : codeMeans 12 (2 ^ 27) 8191 ≡ accepted 0x1FFF
-unfolding leadingZeros
-float16-8191 = refl
-
--- "8193 is 0x2000"
-pub float16-8193 : codeMeans 12 (2 ^ 27) 8193 ≡ accepted 0x2000
-unfolding leadingZeros
-float16-8193 = refl
-
--- "8-bit: 100 is 36"
-pub float8-100 : codeMeans 3 (2 ^ 34) 100 ≡ accepted 36
-unfolding leadingZeros
-float8-100 = refl
-
--- "which means 96"
-pub float8-36-means : floatValue 3 36 ≡ 96
-float8-36-means = refl
+use Rattle.format.specs.Meaning.{codeMeans, int24Means}
 
 -- the last count below the 16-bit limit has the last code
 pub float16-last : codeMeans 12 (2 ^ 27) 134217727 ≡ accepted 0xFFFF

@@ -5,7 +5,7 @@ use mathlib.Core.Bool.{true, false}
 use mathlib.Core.List.{List}
 use Prim.Native.Nat.{ℕ, zero, suc, _<_, _≤_, _^_}
 use borrow.Author.Tests.{le-leb, lt-leb, lt-ltb, eq-eqb, ne-eqb}
-use lib.Dec.{leb, ltb, lit≤}
+use lib.Dec.{leb, ltb}
 use lib.ListN.{getD}
 use Rattle.message.specs.Meaning.{dataSize, sayable, marked}
 
@@ -15,13 +15,6 @@ eight zero a b c = absurd (a refl)
 eight (suc zero) a b c = absurd (b refl)
 eight (suc (suc zero)) a b c = absurd (c refl)
 eight (suc (suc (suc t))) a b c = refl
-
--- a tag has at most eight bytes
-pub size-most : (tag : ℕ) → dataSize tag ≤ 8
-size-most zero = lit≤ tt
-size-most (suc zero) = lit≤ tt
-size-most (suc (suc zero)) = lit≤ tt
-size-most (suc (suc (suc t))) = lit≤ tt
 
 module _ (address tag value : ℕ) where
   pub far : 0x3FFF < address → false ≡ sayable address tag value

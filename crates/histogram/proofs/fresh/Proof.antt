@@ -23,9 +23,6 @@ abbrev μ-loop : tie.MeasureT-loop
 loop-holds : tie.Need-loop-holds Inv-loop μ-loop
 loop-holds c = (search needs, search needs, search needs, fill-none _ 0)
 
-loop-less : tie.Need-loop-less Inv-loop μ-loop
-loop-less c = omega arith
-
 loop-again : tie.Need-loop-again Inv-loop μ-loop
 loop-again c =
     let inv = c .before .loop .inv in
@@ -37,5 +34,5 @@ returns c = freshened _ _ (c .before .loop .i) _ (c .before .loop .inv .3) (omeg
 pub fresh-spec : {M : Type 1} → statement M
 fresh-spec =
     tie.close
-    (tie.spec Inv-loop μ-loop loop-holds (λ c. search needs) (λ c. search needs) (λ c. search needs) loop-less loop-again (λ c. search needs)
-    (λ c. search needs) returns)
+    (tie.spec Inv-loop μ-loop loop-holds (λ c. search needs) (λ c. search needs) (λ c. search needs) (λ c. omega arith) loop-again
+    (λ c. search needs) (λ c. search needs) returns)

@@ -25,9 +25,6 @@ mul-put-word c = omega (arith, within (c .before .before .before .before .before
 add-put-word : tie.Need-add-put-word
 add-put-word c = omega (arith, within (c .before .before .before .before .before .before .before .before .before .before .args .address) (c .before .before .before .before .before .before .before .before .before .before .args .tag) (c .before .before .before .before .before .before .before .before .before .before .args .value) (answered-yes (c .before .before .before .before .before .before .before .before .sayable-as .ensures) (c .before .before .before .before .before .before .before .if1 .left)))
 
-slice-aggregate-checksum : tie.Need-slice-aggregate-checksum
-slice-aggregate-checksum c = simp length-take (omega arith)
-
 returns-3 : tie.Need-returns-3
 returns-3 c =
     let r =
@@ -40,5 +37,5 @@ pub write-spec : {M : Type 1} → statement M
 write-spec =
     tie.close
     (tie.spec (λ c κs. search needs) returns (λ c κs. search needs) (λ c. search needs) returns-2 (λ c κs. search needs) mul-put-word add-put-word
-    (λ c κs. search needs) (λ c κs. search needs) (λ c. search needs) (λ c. search needs) slice-aggregate-checksum (λ c κs. search needs)
-    (λ c κs. search needs) (λ c. search needs) (λ c. search needs) returns-3)
+    (λ c κs. search needs) (λ c κs. search needs) (λ c. search needs) (λ c. search needs) (λ c. simp length-take (omega arith))
+    (λ c κs. search needs) (λ c κs. search needs) (λ c. search needs) (λ c. search needs) returns-3)

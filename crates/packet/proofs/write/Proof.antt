@@ -18,9 +18,6 @@ returns-2 c =
     let r = too-short (c .before .before .before .before .args .buffer .now) (c .before .before .before .before .args .apid) (c .before .before .before .before .args .payload .now) (search needs) (search needs) in
     record { answer = r .answer; memory = r .memory }
 
-slice-aggregate-checksum : tie.Need-slice-aggregate-checksum
-slice-aggregate-checksum c = simp length-take (omega arith)
-
 returns-3 : tie.Need-returns-3
 returns-3 c =
     let r = done (c .before .before .before .before .before .before .before .before .before .before .before .before .before .before .before .before .before .before .args .buffer .now) (c .before .before .before .before .before .before .before .before .before .before .before .before .before .before .before .before .before .before .args .apid) (c .before .before .before .before .before .before .before .before .before .before .before .before .before .before .before .before .before .before .args .payload .now) (search needs) (search needs) (c .before .before .before .before .before .before .before .before .before .before .before .before .put-header .ensures) (c .before .before .before .before .before .before .before .before .copied .ensures) (c .before .before .before .before .checksum .ensures .answer) (put-there (c .before .before .put-word .ensures) (search needs)) in
@@ -30,5 +27,5 @@ pub write-spec : {M : Type 1} → statement M
 write-spec =
     tie.close
     (tie.spec returns (λ c. search needs) returns-2 (λ c. search needs) (λ c. search needs) (λ c κs. search needs) (λ c. search needs)
-    (λ c. search needs) (λ c. search needs) (λ c. search needs) (λ c κs. search needs) (λ c. search needs) slice-aggregate-checksum
+    (λ c. search needs) (λ c. search needs) (λ c. search needs) (λ c κs. search needs) (λ c. search needs) (λ c. simp length-take (omega arith))
     (λ c κs. search needs) (λ c κs. search needs) (λ c. search needs) (λ c. search needs) returns-3)

@@ -6,15 +6,9 @@ use lib.ListN.{length-take}
 use Rattle.vectors.proofs.one.Statement.{statement}
 use Rattle.vectors.proofs.one.Tie as tie
 
-slice-aggregate-read-full-2 : tie.Need-slice-aggregate-read-full-2
-slice-aggregate-read-full-2 c = simp length-take (omega arith)
-
-slice-aggregate-answer : tie.Need-slice-aggregate-answer
-slice-aggregate-answer c = simp length-take (omega arith)
-
 pub one-spec : {M : Type 1} → statement M
 one-spec =
     tie.close
     (tie.spec (λ c. search needs) (λ c κs. search needs) (λ c. search needs) (λ c. search needs) (λ c κs. search needs) (λ c. search needs)
-    (λ c. search needs) slice-aggregate-read-full-2 (λ c κs. search needs) (λ c. search needs) (λ c. search needs) (λ c. search needs)
-    slice-aggregate-answer (λ c κs. search needs) (λ c. search needs) (λ c. search needs))
+    (λ c. search needs) (λ c. simp length-take (omega arith)) (λ c κs. search needs) (λ c. search needs) (λ c. search needs) (λ c. search needs)
+    (λ c. simp length-take (omega arith)) (λ c κs. search needs) (λ c. search needs) (λ c. search needs))

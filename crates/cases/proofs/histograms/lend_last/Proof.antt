@@ -6,11 +6,8 @@ use lib.ListN.{length-take}
 use Rattle.cases.proofs.histograms.lend_last.Statement.{statement}
 use Rattle.cases.proofs.histograms.lend_last.Tie as tie
 
-slice-aggregate-last-counter : tie.Need-slice-aggregate-last-counter
-slice-aggregate-last-counter c = simp length-take (omega arith)
-
 pub lend-last-spec : {M : Type 1} → statement M
 lend-last-spec =
     tie.close
-    (tie.spec (λ c. search needs) slice-aggregate-last-counter (λ c κs. search needs) (λ c. search needs) (λ c. search needs) (λ c. search needs)
-    (λ c. search needs))
+    (tie.spec (λ c. search needs) (λ c. simp length-take (omega arith)) (λ c κs. search needs) (λ c. search needs) (λ c. search needs)
+    (λ c. search needs) (λ c. search needs))

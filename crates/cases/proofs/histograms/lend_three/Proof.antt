@@ -6,11 +6,8 @@ use lib.ListN.{length-take}
 use Rattle.cases.proofs.histograms.lend_three.Statement.{statement}
 use Rattle.cases.proofs.histograms.lend_three.Tie as tie
 
-slice-aggregate-three : tie.Need-slice-aggregate-three
-slice-aggregate-three c = simp length-take (omega arith)
-
 pub lend-three-spec : {M : Type 1} → statement M
 lend-three-spec =
     tie.close
-    (tie.spec (λ c. search needs) slice-aggregate-three (λ c κs. search needs) (λ c. search needs) (λ c. search needs) (λ c. search needs)
-    (λ c. search needs))
+    (tie.spec (λ c. search needs) (λ c. simp length-take (omega arith)) (λ c κs. search needs) (λ c. search needs) (λ c. search needs)
+    (λ c. search needs) (λ c. search needs))

@@ -9,11 +9,9 @@ use Rattle.ground.specs.Laws.{word-there}
 use Rattle.message.proofs.parts.checked_front.Statement.{statement}
 use Rattle.message.proofs.parts.checked_front.Tie as tie
 
-slice-aggregate-checksum : tie.Need-slice-aggregate-checksum
-slice-aggregate-checksum c = simp length-take (omega arith)
-
 returns : tie.Need-returns
 returns c = ap₂ eqb (c .before .checksum .ensures .answer) (word-there (c .word-at .ensures) (search needs))
 
 pub checked-front-spec : {M : Type 1} → statement M
-checked-front-spec = tie.close (tie.spec (λ c. search needs) slice-aggregate-checksum (λ c κs. search needs) (λ c κs. search needs) returns)
+checked-front-spec =
+    tie.close (tie.spec (λ c. search needs) (λ c. simp length-take (omega arith)) (λ c κs. search needs) (λ c κs. search needs) returns)

@@ -31,12 +31,6 @@ eight-of-requires c κs = tt
 sub-left : tie.Need-sub-left Inv-loop μ-loop
 sub-left c = c .eight-of .ensures .1
 
-cast-put-byte : tie.Need-cast-put-byte Inv-loop μ-loop
-cast-put-byte c = omega arith
-
-shr-put-byte : tie.Need-shr-put-byte Inv-loop μ-loop
-shr-put-byte c = omega arith
-
 put-byte-requires : tie.Need-put-byte-requires Inv-loop μ-loop
 put-byte-requires c κs =
     let l = c .before .before .before .loop in
@@ -85,5 +79,5 @@ returns c =
 pub put-bytes-spec : {M : Type 1} → statement M
 put-bytes-spec =
     tie.close
-    (tie.spec Inv-loop μ-loop loop-holds eight-of-requires sub-left cast-put-byte shr-put-byte put-byte-requires add-i loop-less loop-again
-    same-length returns)
+    (tie.spec Inv-loop μ-loop loop-holds eight-of-requires sub-left (λ c. omega arith) (λ c. omega arith) put-byte-requires add-i loop-less
+    loop-again same-length returns)

@@ -22,20 +22,8 @@ abbrev μ-loop : tie.MeasureT-loop
 loop-holds : tie.Need-loop-holds Inv-loop μ-loop
 loop-holds c = (search needs, refl, refl, omega arith)
 
-add-place : tie.Need-add-place Inv-loop μ-loop
-add-place c = omega arith
-
-place-requires : tie.Need-place-requires Inv-loop μ-loop
-place-requires c κs = omega arith
-
 add-total : tie.Need-add-total Inv-loop μ-loop
 add-total c = omega (arith, c .before .before .visit .ensures .1)
-
-add-column : tie.Need-add-column Inv-loop μ-loop
-add-column c = omega arith
-
-loop-less : tie.Need-loop-less Inv-loop μ-loop
-loop-less c = omega arith
 
 loop-again : tie.Need-loop-again Inv-loop μ-loop
 loop-again c =
@@ -61,5 +49,5 @@ returns c =
 pub walk-row-spec : {M : Type 1} → statement M
 walk-row-spec =
     tie.close
-    (tie.spec Inv-loop μ-loop loop-holds add-place place-requires (λ c κs. search needs) add-total add-column loop-less loop-again same-length
-    returns)
+    (tie.spec Inv-loop μ-loop loop-holds (λ c. omega arith) (λ c κs. omega arith) (λ c κs. search needs) add-total (λ c. omega arith)
+    (λ c. omega arith) loop-again same-length returns)

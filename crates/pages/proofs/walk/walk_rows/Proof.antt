@@ -24,9 +24,6 @@ abbrev μ-loop : tie.MeasureT-loop
 loop-holds : tie.Need-loop-holds Inv-loop μ-loop
 loop-holds c = (omega arith, refl, refl, omega arith)
 
-row-start-requires : tie.Need-row-start-requires Inv-loop μ-loop
-row-start-requires c κs = omega arith
-
 walk-row-requires : tie.Need-walk-row-requires Inv-loop μ-loop
 walk-row-requires c κs = (
   rw (c .before .row-start .ensures .0, c .before .before .before .loop .inv .1)
@@ -39,12 +36,6 @@ walk-row-requires c κs = (
   omega arith,
   omega arith,
 )
-
-add-row : tie.Need-add-row Inv-loop μ-loop
-add-row c = omega arith
-
-loop-less : tie.Need-loop-less Inv-loop μ-loop
-loop-less c = omega arith
 
 loop-again : tie.Need-loop-again Inv-loop μ-loop
 loop-again c =
@@ -70,5 +61,5 @@ returns c =
 pub walk-rows-spec : {M : Type 1} → statement M
 walk-rows-spec =
     tie.close
-    (tie.spec Inv-loop μ-loop (λ c. search needs) (λ c. search needs) (λ c. search needs) (λ c. search needs) loop-holds row-start-requires
-    walk-row-requires add-row loop-less loop-again same-length returns)
+    (tie.spec Inv-loop μ-loop (λ c. search needs) (λ c. search needs) (λ c. search needs) (λ c. search needs) loop-holds (λ c κs. omega arith)
+    walk-row-requires (λ c. omega arith) (λ c. omega arith) loop-again same-length returns)

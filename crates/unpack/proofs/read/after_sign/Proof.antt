@@ -19,12 +19,6 @@ abbrev μ-loop : tie.MeasureT-loop
 loop-holds : tie.Need-loop-holds Inv-loop μ-loop
 loop-holds c = (c .before .pre .3, omega arith, refl)
 
-bit-requires : tie.Need-bit-requires Inv-loop μ-loop
-bit-requires c κs = omega arith
-
-add-after-run : tie.Need-add-after-run Inv-loop μ-loop
-add-after-run c = omega arith
-
 after-run-requires : tie.Need-after-run-requires Inv-loop μ-loop
 after-run-requires c κs =
     let p = c .before .before .before .before .before .pre in
@@ -48,15 +42,6 @@ returns-2 c =
     (c .before .if1 .left) (omega arith))
     refl
 
-add-ones : tie.Need-add-ones Inv-loop μ-loop
-add-ones c = omega arith
-
-add-here : tie.Need-add-here Inv-loop μ-loop
-add-here c = omega arith
-
-loop-less : tie.Need-loop-less Inv-loop μ-loop
-loop-less c = omega arith
-
 loop-again : tie.Need-loop-again Inv-loop μ-loop
 loop-again c =
     let l = c .before .before .before .before .loop in
@@ -76,5 +61,5 @@ returns-3 c =
 pub after-sign-spec : {M : Type 1} → statement M
 after-sign-spec =
     tie.close
-    (tie.spec Inv-loop μ-loop loop-holds bit-requires add-after-run after-run-requires returns returns-2 add-ones add-here loop-less loop-again
-    returns-3)
+    (tie.spec Inv-loop μ-loop loop-holds (λ c κs. omega arith) (λ c. omega arith) after-run-requires returns returns-2 (λ c. omega arith)
+    (λ c. omega arith) (λ c. omega arith) loop-again returns-3)

@@ -18,26 +18,8 @@ Inv-loop bytes at width x₀ i₀ x i =
 abbrev μ-loop : tie.MeasureT-loop
 μ-loop bytes at width x₀ i₀ x i = width - i
 
-mul-x : tie.Need-mul-x Inv-loop μ-loop
-mul-x c = omega arith
-
-cast-bit-wide : tie.Need-cast-bit-wide Inv-loop μ-loop
-cast-bit-wide c = omega arith
-
 add-bit-wide : tie.Need-add-bit-wide Inv-loop μ-loop
 add-bit-wide c = omega (arith, length-counted (c .before .before .before .args .bytes .now))
-
-bit-wide-requires : tie.Need-bit-wide-requires Inv-loop μ-loop
-bit-wide-requires c κs = omega arith
-
-add-x : tie.Need-add-x Inv-loop μ-loop
-add-x c = omega arith
-
-add-i : tie.Need-add-i Inv-loop μ-loop
-add-i c = omega arith
-
-loop-less : tie.Need-loop-less Inv-loop μ-loop
-loop-less c = omega arith
 
 loop-again : tie.Need-loop-again Inv-loop μ-loop
 loop-again c =
@@ -52,4 +34,5 @@ returns c =
 pub field-spec : {M : Type 1} → statement M
 field-spec =
     tie.close
-    (tie.spec Inv-loop μ-loop (λ c. search needs) mul-x cast-bit-wide add-bit-wide bit-wide-requires add-x add-i loop-less loop-again returns)
+    (tie.spec Inv-loop μ-loop (λ c. search needs) (λ c. omega arith) (λ c. omega arith) add-bit-wide (λ c κs. omega arith) (λ c. omega arith)
+    (λ c. omega arith) (λ c. omega arith) loop-again returns)
