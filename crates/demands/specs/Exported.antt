@@ -1,5 +1,5 @@
--- Demand 3 of the exported calls, by which benches in C, Rust and Python work: each answers the number of what the library's own call answers on the memory
--- and the state that were lent, and leaves what that leaves; so that nothing is lost from an opening that answers 0 on.
+-- Demand 3 of the exported calls, by which benches in C, Rust and Python work, said of what a bench sees: the numbers that the calls answer, the sums and the "again" in
+-- their lent places, memory and state. Nothing is lost over any session from an opening that answered 0, and a repeat answers the same sum and changes nothing.
 -- Assumes nothing.
 
-pub use Rattle.plavotesk.specs.Session.{ask-leaves, call-same, session-same, open-accepted, session-conserves}
+pub use Rattle.plavotesk.specs.Session.{Made, Meets, Session, acceptedIn, clearedIn, newIn, NoneNew, session-conserves, Repeated, session-repeats}

@@ -70,7 +70,7 @@ refusal-conserves m w (ask number v) n = refl
 -- every call conserves, on any memory and any state
 pub call-conserves : (m w : List ℕ) (c : Call) → Conserves m c (callMeans m w c)
 call-conserves m w =
-    call-elim (Conserves m) m w (refusal-conserves m w)
+    call-elim (Conserves m) m w (λ c n z. refusal-conserves m w c n)
     (λ h a k. omega (arith, total-set m (placeOf (length m) (pageIn w) a) (wordOf m (pageIn w) a + 1) (within (length m) (pageIn w) a k)))
     (λ h. refl)
     (λ h number v k t. walk-conserves (not (pageIn w)) (v .clear) m (cellsOf v))

@@ -1,4 +1,5 @@
--- What a call may answer and leave: to show something of every call, show it of a refusal, an increment, a flip, a new ask and a repeat.
+-- What a call may answer and leave: to show something of every call, show it of a refusal by any number but 0, an
+-- increment, a flip, a new ask and a repeat.
 -- Assumes nothing.
 use mathlib.Core.Bool.{true, not, _&&_}
 use mathlib.Core.Path.{_≡_, refl}
@@ -37,7 +38,7 @@ is-opened m w =
     (λ h e. record { taken = both-hold {a = roomy w} h .1; left = refl })
     (λ h e. absurd (refused-not e))
 
-module _ (P : Call → Outcome → Type 0) (m w : List ℕ) (refusal : (c : Call) (n : ℕ) → P c (refuse n m w)) where
+module _ (P : Call → Outcome → Type 0) (m w : List ℕ) (refusal : (c : Call) (n : ℕ) → 0 < n → P c (refuse n m w)) where
   -- an ask of any turn
   turn-elim : ((number : ℕ) (v : Window) → lastOf v < length m / 2 → turnOf (keptIn w) number v ≡ NewAsk
       → P (ask number v)
@@ -49,10 +50,10 @@ module _ (P : Call → Outcome → Type 0) (m w : List ℕ) (refusal : (c : Call
   turn-elim asked repeated number v NewAsk e =
       take-elim (λ (o : PageOutcome ℕ). P (ask number v) (taking w number v o)) m (not (pageIn w)) v
       (λ h. asked number v h e)
-      (λ n. refusal (ask number v) n)
+      (refusal (ask number v))
   turn-elim asked repeated number v (LastAsk sum) e = repeated number sum v
-  turn-elim asked repeated number v OtherWindow e = refusal (ask number v) 18
-  turn-elim asked repeated number v OutOfTurn e = refusal (ask number v) 17
+  turn-elim asked repeated number v OtherWindow e = refusal (ask number v) 18 (omega arith)
+  turn-elim asked repeated number v OutOfTurn e = refusal (ask number v) 17 (omega arith)
 
   -- every call: a refusal, an increment, a flip, a new ask, a repeat
   pub call-elim : (fittingOf (length m) w ≡ true → (address : ℕ) → address < length m / 2
@@ -69,11 +70,11 @@ module _ (P : Call → Outcome → Type 0) (m w : List ℕ) (refusal : (c : Call
       pick-elim (P (increment address)) (fittingOf (length m) w) _ _
       (λ h. count-elim (λ (o : PageOutcome (Unit {0})). P (increment address) (counting w o)) m (pageIn w) address
       (counted h address)
-      (λ n. refusal (increment address) n))
-      (λ h. refusal (increment address) 13)
+      (refusal (increment address)))
+      (λ h. refusal (increment address) 13 (omega arith))
   call-elim counted flipped asked repeated flip =
-      pick-elim (P flip) (fittingOf (length m) w) _ _ flipped (λ h. refusal flip 13)
+      pick-elim (P flip) (fittingOf (length m) w) _ _ flipped (λ h. refusal flip 13 (omega arith))
   call-elim counted flipped asked repeated (ask number v) =
       pick-elim (P (ask number v)) (fittingOf (length m) w) _ _
       (λ h. turn-elim (asked h) (repeated h) number v (turnOf (keptIn w) number v) refl)
-      (λ h. refusal (ask number v) 13)
+      (λ h. refusal (ask number v) 13 (omega arith))

@@ -35,7 +35,7 @@ refusal-leaves m w page (ask number v) n = λ b k. refl
 -- every call, on any memory and any state
 pub call-counters : (m w : List ℕ) (c : Call) → Counters m (pageIn w) c (callMeans m w c)
 call-counters m w =
-    call-elim (Counters m (pageIn w)) m w (refusal-leaves m w (pageIn w))
+    call-elim (Counters m (pageIn w)) m w (λ c n z. refusal-leaves m w (pageIn w) c n)
     (λ h a k e. record {
       one-more = put-same m (pageIn w) a (wordOf m (pageIn w) a + 1) k;
       others = λ q b j d. put-other m (pageIn w) q a b (wordOf m (pageIn w) a + 1) k j d;

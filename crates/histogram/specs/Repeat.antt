@@ -64,7 +64,7 @@ refusal-told m w sum (ask number v) n = λ e. absurd (refused-not e)
 -- an ask that was accepted as new fitted, was its turn, and is what is kept
 pub is-new : (m w : List ℕ) (number sum : ℕ) (v : Window) → askMeans m w number v .answer ≡ accepted (new sum) → IsNew m w number sum v (askMeans m w number v)
 is-new m w number sum v =
-    call-elim (Told m w sum) m w (refusal-told m w sum)
+    call-elim (Told m w sum) m w (λ c n z. refusal-told m w sum c n)
     (λ h a k. tt)
     (λ h. tt)
     (λ h n u k t e. record { fits = h; turn = t; kept = keep-says w n u _ (fits-long (length m) w h) .1 ∙ ap (λ (x : ℕ). Last n u x) (new-sums e) })

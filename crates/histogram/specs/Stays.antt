@@ -31,7 +31,7 @@ accepted-not e = let z : _≡_ {A = ℕ} 0 1 = cc in omega arith
 pub call-stays : (m w : List ℕ) (c : Call) → Stays m w (callMeans m w c)
 call-stays m w =
     call-elim (λ c o. Stays m w o) m w
-    (λ c n. record { length-stays = refl; framed = framed-same w; kept = λ e. refl; refusal = λ k e. (refl, refl) })
+    (λ c n z. record { length-stays = refl; framed = framed-same w; kept = λ e. refl; refusal = λ k e. (refl, refl) })
     (λ h a k. record {
       length-stays = length-set m (placeOf (length m) (pageIn w) a) (wordOf m (pageIn w) a + 1);
       framed = framed-same w;

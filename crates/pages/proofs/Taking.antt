@@ -41,7 +41,7 @@ pub sound-inside : (m : List ℕ) (p : Bool) (w : Window) → checkMeans m p w �
 sound-inside m p w =
     check-elim (λ (a : Paper (Unit {0})). a ≡ accepted tt → lastOf w < length m / 2) m p w
     (λ h e. h)
-    (λ n e. absurd (let z : _≡_ {A = ℕ} 0 1 = cc in omega arith))
+    (λ n h e. absurd (let z : _≡_ {A = ℕ} 0 1 = cc in omega arith))
 
 -- a window refused by the check is not taken, and the memory stays
 pub not-taken : (m : List ℕ) (p : Bool) (w : Window) (r : Taken) {n : ℕ} → checkMeans m p w ≡ refused n → takenPaper r ≡ refused n → TakePromise m p w r m
