@@ -11,7 +11,8 @@ use lib.Arith.{digits-lt}
 use lib.Dec.{ltb, eqb}
 use borrow.Author.Tests.{lt-ltb, le-ltb, ltb-true, ltb-false, ne-eqb}
 use Rattle.ground.specs.Choice.{pick, pick-elim}
-use Rattle.code.specs.Meaning.{Shape, nought, small, mid, big, leadingIn, leading, shapeOf, bigOf, leastCoded, largest, longestRun, filled, magnitude, sign, value, signed, signOf, shapeOfNumber}
+use Rattle.code.specs.Meaning.{Shape, nought, small, mid, big, leadingIn, leading, shapeOf, bigOf, leastCoded, largest, longestRun, filled}
+use Rattle.code.specs.Meaning.{magnitude, sign, value, signed, signOf, shapeOfNumber}
 use Rattle.code.specs.Shapes.{Drop, none, three, Valid}
 
 -- the least magnitude of a shape
@@ -174,7 +175,8 @@ shape-is d (small s x) m dr v a b =
     rw (le-ltb m (leastCoded d) (omega arith), lt-ltb m 16 (omega arith))
     (ap (small s) (cell-is x d m (omega arith) b))
 shape-is d (mid s x) m dr v a b =
-    let under : x * 2 ^ (1 + d) + (2 ^ (1 + d) - 1) < 2 ^ 4 = field-lt (3 - d) (1 + d) 4 (v .1) (omega (arith, pow-pos (1 + d))) (omega (arith, drop-small dr)) in
+    let under : x * 2 ^ (1 + d) + (2 ^ (1 + d) - 1) < 2 ^ 4 = field-lt (3 - d) (1 + d) 4 (v .1) (omega (arith, pow-pos (1 + d)))
+    (omega (arith, drop-small dr)) in
     rw (le-ltb m (leastCoded d) (omega (arith, least-coded d .1)), le-ltb m 16 (omega arith), lt-ltb m 32 (omega arith))
     (ap (mid s) (cell-is x (1 + d) (m % 16) (omega arith) (omega arith)))
 shape-is d (big s ones p x) m dr v a b =
@@ -229,7 +231,8 @@ magnitude-fits d shape dr v = le-trans (magnitude-bounds d shape dr v .1) (highe
         let under : x * 2 ^ d + (2 ^ d - 1) < 2 ^ 4 = field-lt (4 - d) d 4 (v .1) (omega (arith, pow-pos d)) (omega (arith, drop-small dr)) in
         omega arith
     highest-fits d (mid s x) dr v =
-        let under : x * 2 ^ (1 + d) + (2 ^ (1 + d) - 1) < 2 ^ 4 = field-lt (3 - d) (1 + d) 4 (v .1) (omega (arith, pow-pos (1 + d))) (omega (arith, drop-small dr)) in
+        let under : x * 2 ^ (1 + d) + (2 ^ (1 + d) - 1) < 2 ^ 4 = field-lt (3 - d) (1 + d) 4 (v .1) (omega (arith, pow-pos (1 + d)))
+        (omega (arith, drop-small dr)) in
         omega arith
     highest-fits d (big s ones p x) dr v =
         let k : ℕ = 2 * ones + 1 + p in

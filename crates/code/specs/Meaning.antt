@@ -44,7 +44,8 @@ leadingIn (suc places) m = pick (ltb m 2) zero (suc (leadingIn places (m / 2)))
 abbrev pub leading : ℕ → ℕ
 leading m = leadingIn 31 m
 
--- "k at least 5, j = (k-1)/2 rounded down", "0 for odd k or 1 for even k, then the first j+1-drop bits after the leading one": k is 2·j + 1 + parity, and j + parity + drop bits are left out
+-- "k at least 5, j = (k-1)/2 rounded down", "0 for odd k or 1 for even k, then the first j+1-drop bits after the leading one": k is 2·j + 1 + parity, and j
+-- + parity + drop bits are left out
 abbrev pub bigOf : ℕ → ℕ → ℕ → ℕ → Shape
 bigOf d s k m = big s ((k - 1) / 2) ((k - 1) % 2) (m % 2 ^ k / 2 ^ ((k - 1) / 2 + (k - 1) % 2 + d))
 

@@ -74,7 +74,8 @@ pub fromBits-snoc : (l : List ℕ) (b : ℕ) → fromBits (l ++ (b ∷ [])) ≡ 
 fromBits-snoc [] b = omega arith
 fromBits-snoc (a ∷ l) b =
     let ih = fromBits-snoc l b in
-    let e : 2 ^ length (l ++ (b ∷ [])) ≡ 2 ^ length l * 2 = ap (λ (n : ℕ). 2 ^ n) (length-append l (b ∷ []) ∙ native.Mathlib.Numerals.add-one (length l)) ∙ native.Mathlib.Nat.pow-suc 2 (length l) in
+    let e : 2 ^ length (l ++ (b ∷ [])) ≡ 2 ^ length l * 2 = ap (λ (n : ℕ). 2 ^ n) (length-append l (b ∷ []) ∙ native.Mathlib.Numerals.add-one (length l))
+    ∙ native.Mathlib.Nat.pow-suc 2 (length l) in
     let f : a * (2 ^ length l * 2) ≡ a * 2 ^ length l * 2 = sym (native.Mathlib.Nat.mul-assoc a (2 ^ length l) 2) in
     ap (λ (n : ℕ). a * n + fromBits (l ++ (b ∷ []))) e ∙ omega arith
 

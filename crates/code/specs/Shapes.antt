@@ -12,7 +12,8 @@ use lib.Dec.{ltb, eqb}
 use borrow.Author.Tests.{lt-ltb, le-ltb, ltb-true, ltb-false, eq-eqb, ne-eqb, eqb-true, eqb-false}
 use Rattle.ground.specs.Choice.{pick, pick-elim}
 use Rattle.ground.specs.Bits.{toBits}
-use Rattle.code.specs.Meaning.{Shape, nought, small, mid, big, Parsed, found, ranOut, redundantZero, runTooLong, longestRun, dropTaken, bits, coded, parse, afterSign, afterRun, parityThen, unlessZero, field, fromBits}
+use Rattle.code.specs.Meaning.{Shape, nought, small, mid, big, Parsed, found, ranOut, redundantZero, runTooLong, longestRun, dropTaken, bits}
+use Rattle.code.specs.Meaning.{coded, parse, afterSign, afterRun, parityThen, unlessZero, field, fromBits}
 use Rattle.code.specs.BitLists.{allBits, allBits-take, length-toBits, fromBits-toBits, toBits-fromBits, fromBits-lt}
 
 -- the two truth values differ

@@ -14,7 +14,9 @@ use Rattle.ground.specs.Choice.{pick}
 use Rattle.ground.specs.Paper.{Paper, accepted, refused}
 use Rattle.ground.specs.Bits.{toBits, bitsOf}
 use Rattle.ground.specs.Putting.{length-put}
-use Rattle.code.specs.Meaning.{Shape, nought, small, mid, big, Parsed, found, ranOut, redundantZero, runTooLong, Taken, bits, value, sign, magnitude, shapeOfNumber, codeOf, decoded, counted, parse, parseAt, answerOf, unpackMeans, inRule, codeFits, packMeans, packLeaves, putAt, padded, toByteEnd, bytesWith, dropTaken, largest}
+use Rattle.code.specs.Meaning.{Shape, nought, small, mid, big, Parsed, found, ranOut, redundantZero, runTooLong, Taken, bits, value, sign}
+use Rattle.code.specs.Meaning.{magnitude, shapeOfNumber, codeOf, decoded, counted, parse, parseAt, answerOf, unpackMeans, inRule, codeFits}
+use Rattle.code.specs.Meaning.{packMeans, packLeaves, putAt, padded, toByteEnd, bytesWith, dropTaken, largest}
 use Rattle.code.specs.BitLists.{allBits, allBits-append, allBits-take, allBits-drop, allBits-toBits, allBits-bitsOf, length-bitsOf}
 use Rattle.code.specs.Positions.{length-counted, allBits-counted, bits-back, length-bytesFrom}
 use Rattle.code.specs.Shapes.{Drop, drop-of, Valid, parse-bits, found-exact, false-true}
@@ -227,8 +229,14 @@ pub allBits-shape : (d : ℕ) (shape : Shape) → Valid d shape → allBits (bit
 allBits-shape d nought v = (omega arith, tt)
 allBits-shape d (small s x) v = (omega arith, (v .0, (omega arith, allBits-toBits (4 - d) x)))
 allBits-shape d (mid s x) v = (omega arith, (v .0, (omega arith, (omega arith, allBits-toBits (3 - d) x))))
-allBits-shape d (big s ones p x) v =
-    (omega arith, (v .0, allBits-append (replicate ones 1) (0 ∷ (p ∷ toBits (ones + 1 - d) x)) (ones-fine ones) (omega arith, (v .3, allBits-toBits (ones + 1 - d) x))))
+allBits-shape d (big s ones p x) v = (
+  omega arith,
+  (
+    v .0,
+    allBits-append (replicate ones 1) (0 ∷ (p ∷ toBits (ones + 1 - d) x)) (ones-fine ones)
+        (omega arith, (v .3, allBits-toBits (ones + 1 - d) x)),
+  ),
+)
   where
     ones-fine : (n : ℕ) → allBits (replicate n 1)
     ones-fine zero = tt

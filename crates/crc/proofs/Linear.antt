@@ -2,7 +2,8 @@
 -- Assumes nothing.
 use mathlib.Core.Path.{_≡_, refl, sym, ap, ap₂, _∙_, subst}
 use Prim.Native.Nat.{ℕ, zero, suc, _+_, _*_, _/_, _%_, _^_, _<_, _≤_}
-use native.Mathlib.Nat.{zero-add, suc-add, not-suc-le-zero, le-of-suc-le-suc, mod-eq-of-lt, mul-assoc, mul-comm, pow-suc, div-eq-of-lt, mul-one, add-zero, le-mul-of-pos-right}
+use native.Mathlib.Nat.{zero-add, suc-add, not-suc-le-zero, le-of-suc-le-suc, mod-eq-of-lt, mul-assoc, mul-comm, pow-suc, div-eq-of-lt, mul-one}
+use native.Mathlib.Nat.{add-zero, le-mul-of-pos-right}
 use native.Mathlib.Omega.{arith}
 use lib.Pow.{shr-lt, pow-pos}
 use lib.Bits.{bitXor, xor-shr, xor-mod, xor-block, xor-zero-r}

@@ -7,9 +7,11 @@ pub use Rattle.crc.specs.OneOutcome.{checksum-one}
 -- 16-bit words
 pub use Rattle.ground.specs.OneOutcome.{lies-one, word-one, put-one}
 -- packets
-pub use Rattle.packet.specs.OneOutcome.{find-one, header-one, payload-one, write-one as packet-write-one, found-number-one, headed-number-one, written-number-one as packet-written-number-one}
+pub use Rattle.packet.specs.OneOutcome.{find-one, header-one, payload-one, write-one as packet-write-one, found-number-one, headed-number-one}
+pub use Rattle.packet.specs.OneOutcome.{written-number-one as packet-written-number-one}
 -- messages
-pub use Rattle.message.specs.OneOutcome.{read-one as message-read-one, write-one as message-write-one, read-number-one, written-number-one as message-written-number-one}
+pub use Rattle.message.specs.OneOutcome.{read-one as message-read-one, write-one as message-write-one, read-number-one}
+pub use Rattle.message.specs.OneOutcome.{written-number-one as message-written-number-one}
 -- packed codes: pack; unpack, and a reader's next_code and read_at; magnitude; sign; the small questions that both ask
 pub use Rattle.code.specs.OneOutcome.{pack-one, unpack-one, magnitude-one, sign-one, packed-number-one, unpacked-number-one}
 pub use Rattle.code.specs.OneOutcome.{drop-taken-one, in-rule-one, wide-one, end-of-one}

@@ -3,7 +3,9 @@
 use mathlib.Core.Path.{_≡_, refl, sym, ap, ap₂, _∙_, subst}
 use mathlib.Core.Logic.{_⊎_, inl, inr, ⊎-elim}
 use Prim.Native.Nat.{ℕ, zero, suc, _+_, _-_, _*_, _/_, _^_, _≤_, _<_}
-use native.Mathlib.Nat.{le-of-eq, zero-div, zero-lt-suc, div-le-self, zero-add, add-suc, zero-mul, suc-mul, add-mul, mul-assoc, pow-suc, div-one, mod-lt, lt-div-mul-add, div-mul-le-self, le-div-iff-mul-le, div-lt-iff-lt-mul, lt-of-lt-of-le, lt-irrefl, suc-sub-suc, sub-zero}
+use native.Mathlib.Nat.{le-of-eq, zero-div, zero-lt-suc, div-le-self, zero-add, add-suc, zero-mul, suc-mul, add-mul, mul-assoc, pow-suc, div-one}
+use native.Mathlib.Nat.{mod-lt, lt-div-mul-add, div-mul-le-self, le-div-iff-mul-le, div-lt-iff-lt-mul, lt-of-lt-of-le, lt-irrefl, suc-sub-suc}
+use native.Mathlib.Nat.{sub-zero}
 use native.Mathlib.Decide.{decLt, le-ind}
 use native.Mathlib.Omega.{arith}
 use lib.Pow.{pow-pos, pow-add, pow-mono, split, high, low}

@@ -7,7 +7,8 @@ use Rattle.format.specs.declared.Code16.{Code16}
 use Rattle.format.specs.declared.Code8.{Code8}
 use Rattle.format.specs.declared.Code24.{Code24}
 use Rattle.format.specs.declared.Count24.{Count24}
-use Rattle.format.specs.Answers.{code16Paper, code16Back, code16-home, code8Paper, code8Back, code8-home, code24Paper, code24Back, code24-home, count24Paper, count24Back, count24-home}
+use Rattle.format.specs.Answers.{code16Paper, code16Back, code16-home, code8Paper, code8Back, code8-home, code24Paper, code24Back, code24-home}
+use Rattle.format.specs.Answers.{count24Paper, count24Back, count24-home}
 use Rattle.format.specs.Codes.{takes-one}
 use Rattle.format.specs.Meaning.{floatValue}
 use Rattle.format.specs.Promise.{Float16CodePromise, Float16CountPromise, Float8CodePromise, Float8CountPromise, Int24CodePromise, Int24CountPromise}

@@ -8,3 +8,4 @@ pub mod Meaning
 pub mod Promise
 pub mod OneOutcome
 pub mod Laws
+pub mod Filling

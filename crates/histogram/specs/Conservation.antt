@@ -37,7 +37,8 @@ total-zeros zero = refl
 total-zeros (suc n) = omega (arith, total-zeros n)
 
 -- a clearing walk moves counts from the memory to the sum
-pub walk-clears : (page : Bool) (w : Walk) (cells : List ℕ) → total (walkOf page true w cells .memory) + walkOf page true w cells .sum ≡ total (w .memory) + w .sum
+pub walk-clears : (page : Bool) (w : Walk) (cells : List ℕ) → total (walkOf page true w cells .memory) + walkOf page true w cells .sum
+    ≡ total (w .memory) + w .sum
 walk-clears page w [] = refl
 walk-clears page w (x ∷ xs) =
     let ih : total (walkOf page true (visitOf page true w x) xs .memory) + walkOf page true (visitOf page true w x) xs .sum
@@ -53,7 +54,8 @@ walk-keeps page w (x ∷ xs) = walk-keeps page (visitOf page false w x) xs
 
 -- what a walk from nothing leaves and hands out where it clears is what was there
 pub walk-conserves : (page clear : Bool) (m : List ℕ) (cells : List ℕ)
-    → total (walkOf page clear (record { memory = m; sum = 0 }) cells .memory) + pick clear (walkOf page clear (record { memory = m; sum = 0 }) cells .sum) 0 ≡ total m + 0
+    → total (walkOf page clear (record { memory = m; sum = 0 }) cells .memory) + pick clear (walkOf page clear (record { memory = m; sum = 0 }) cells .sum) 0
+    ≡ total m + 0
 walk-conserves page true m cells = walk-clears page (record { memory = m; sum = 0 }) cells
 walk-conserves page false m cells = ap (λ (l : List ℕ). total l + 0) (walk-keeps page (record { memory = m; sum = 0 }) cells)
 

@@ -30,7 +30,8 @@ pub open-one : {m w : List ℕ} {r s : Opened} {m′ n′ w′ v′ : List ℕ} 
 open-one p q = outcome-one openedPaper openedBack opened-home (p .outcome) (q .outcome)
 
 -- an increment; the state is lent unchangeable
-pub increment-one : {m w : List ℕ} {a : ℕ} {r s : IncrementAnswer} {m′ n′ : List ℕ} → IncrementPromise m w a r m′ → IncrementPromise m w a s n′ → (r ≡ s) × (m′ ≡ n′)
+pub increment-one : {m w : List ℕ} {a : ℕ} {r s : IncrementAnswer} {m′ n′ : List ℕ} → IncrementPromise m w a r m′ → IncrementPromise m w a s n′
+    → (r ≡ s) × (m′ ≡ n′)
 increment-one p q = let one = outcome-one incrementPaper incrementBack increment-home (p .outcome) (q .outcome) in (one .0, one .1)
 
 -- a flip; the memory is lent unchangeable

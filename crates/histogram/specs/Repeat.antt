@@ -95,6 +95,7 @@ repeat l number sum v later e n =
 pub repeat-from-opening : (m w : List ℕ) (earlier later : List Call) (number sum : ℕ) (v : Window)
     → answered (run (opening m w) earlier) (ask number v) .answer ≡ accepted (new sum) → NoNew (step (run (opening m w) earlier) (ask number v)) later
     → answered (run (opening m w) (earlier ++ (ask number v ∷ later))) (ask number v)
-    ≡ outcomeOf (accepted (again sum)) (run (opening m w) (earlier ++ (ask number v ∷ later)) .memory) (run (opening m w) (earlier ++ (ask number v ∷ later)) .state)
+    ≡ outcomeOf (accepted (again sum)) (run (opening m w) (earlier ++ (ask number v ∷ later)) .memory)
+    (run (opening m w) (earlier ++ (ask number v ∷ later)) .state)
 repeat-from-opening m w earlier later number sum v e n =
     rw (run-append (opening m w) earlier (ask number v ∷ later)) (repeat (run (opening m w) earlier) number sum v later e n)

@@ -19,7 +19,8 @@ use Rattle.ground.specs.Choice.{pick}
 use Rattle.ground.specs.Paper.{accepted, refused}
 use Rattle.ground.specs.Bits.{toBits, bitsOf}
 use Rattle.ground.specs.Putting.{put, put-next}
-use Rattle.code.specs.Meaning.{nought, small, mid, bits, coded, shapeOf, bigOf, leading, leastCoded, signOf, counted, largest, longestRun, toByteEnd, padded, bytesFrom, bytesWith, codeOf, codeFits, inRule, dropTaken}
+use Rattle.code.specs.Meaning.{nought, small, mid, bits, coded, shapeOf, bigOf, leading, leastCoded, signOf, counted, largest, longestRun, toByteEnd}
+use Rattle.code.specs.Meaning.{padded, bytesFrom, bytesWith, codeOf, codeFits, inRule, dropTaken}
 use Rattle.code.specs.BitLists.{length-toBits, length-bitsOf, toBits-low, toBits-join, toBits-ones, toBits-zeros}
 use Rattle.code.specs.Positions.{length-counted, allBytes, bytes-back}
 use Rattle.code.specs.Magnitudes.{leading-is, exponent-lt, high-lt, field-lt, drop-small}
@@ -241,7 +242,8 @@ set-bitsOf (b ∷ bytes) i r number h e = go (λ n k f. set-bitsOf bytes n r num
         ap (λ (k : ℕ). bitsOf (set (b ∷ bytes) k r)) q
         ∙ ap (λ (k : List ℕ). toBits 8 b ++ k)
         (ih n (omega arith) (e ∙ ap₂ (λ (j k : ℕ). take k (byteBits (getD (b ∷ bytes) j 0)) ++ toBits (8 - k) number) q m))
-        ∙ sym (ap₂ (λ (k : ℕ) (l : List ℕ). put (toBits 8 b ++ bitsOf bytes) k l) f same ∙ put-append-add (toBits 8 b) (bitsOf bytes) n (toBits (8 - n % 8) number))
+        ∙ sym (ap₂ (λ (k : ℕ) (l : List ℕ). put (toBits 8 b ++ bitsOf bytes) k l) f same
+        ∙ put-append-add (toBits 8 b) (bitsOf bytes) n (toBits (8 - n % 8) number))
 
 -- the byte at a position, stored with as many of its last bits replaced as it has room for
 pub part-stored : (bytes : List ℕ) (i byte room r number : ℕ) → i < 8 * length bytes → byte ≡ getD bytes (i / 8) 0 → room ≡ 8 - i % 8
@@ -308,7 +310,8 @@ put-turn old now last at count number here left room rest fits few place parts i
     ∙ ap (λ (n : ℕ). toBits (count - left) n ++ next) same) in
     e
     ∙ ap (λ (k : List ℕ). put k here next) inv
-    ∙ put-after l at here first next (omega (arith, length-counted old, length-bitsOf old)) (omega (arith, place, length-toBits (count - left) (number / 2 ^ left)))
+    ∙ put-after l at here first next (omega (arith, length-counted old, length-bitsOf old))
+    (omega (arith, place, length-toBits (count - left) (number / 2 ^ left)))
     ∙ ap (put l at) joined
 
 -- bits put in two parts
@@ -420,7 +423,8 @@ pub place-there : (buffer last : List ℕ) (at number count end pad joined : ℕ
     → PlacePromise buffer at (toBits count number) (Next (at + count)) last
 place-there buffer last at number count end pad joined e h p q same ok wrote =
     let l : List ℕ = toBits count number in
-    let t : leb (at + length l) (length (counted buffer)) ≡ true = le-leb (at + length l) (length (counted buffer)) (omega (arith, length-toBits count number)) in
+    let t : leb (at + length l) (length (counted buffer)) ≡ true = le-leb (at + length l) (length (counted buffer))
+    (omega (arith, length-toBits count number)) in
     let code : toBits (count + pad) joined ≡ padded at l = ap (toBits (count + pad)) q ∙ padded-is at number count pad p in
     record {
       answer =

@@ -1,4 +1,3 @@
-pub mod Tests
 pub mod Standing
 pub mod Finding
 pub mod Copying

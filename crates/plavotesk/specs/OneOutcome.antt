@@ -95,5 +95,6 @@ plv-histogram-increment-one memory state address o p = one-value
 pub plv-histogram-flip-one : (memory state : List ℕ) → One (HistogramFlipPromise memory state)
 plv-histogram-flip-one memory state o p = one-value
 
-pub plv-histogram-ask-one : (memory state : List ℕ) (number : ℕ) (window : Window) (held : AskValues) → One (HistogramAskPromise memory state number window held)
+pub plv-histogram-ask-one : (memory state : List ℕ) (number : ℕ) (window : Window) (held : AskValues)
+    → One (HistogramAskPromise memory state number window held)
 plv-histogram-ask-one memory state number window held o p = one-value

@@ -160,7 +160,8 @@ open-accepted m w o e z =
     (λ h q. absurd (let n : o .number ≡ 13 = ap (λ (x : Left). x .number) q in omega (arith, z)))
     e
 
--- demand 3 of the exported calls: from an opening that answered 0, after every session, refused calls among them, the counts in lent memory plus the sums that new
+-- demand 3 of the exported calls: from an opening that answered 0, after every session, refused calls among them, the counts in lent memory plus the sums
+-- that new
 -- clearing asks handed out equal the increments that answered 0
 pub session-conserves : (m w : List ℕ) (o : Left) → HistogramOpenPromise m w o → o .number ≡ 0 → (xs : List Made) → Session o xs
     → total (lastLeft o xs .memory) + sumOver clearedIn xs ≡ sumOver acceptedIn xs
@@ -208,7 +209,8 @@ pub record Repeated (before : Left) (sum : ℕ) (o : Left) (values : AskValues) 
   pub memory : o .memory ≡ before .memory
   pub state : o .state ≡ before .state
 
--- demand 3 of the exported calls: a new ask, and no later one new: asked again with its number and window, it answers the same sum as again, and changes nothing
+-- demand 3 of the exported calls: a new ask, and no later one new: asked again with its number and window, it answers the same sum as again, and changes
+-- nothing
 pub session-repeats : (o : Left) (number : ℕ) (v : Window) (held : AskValues) (p : Left) (values : AskValues) (later : List Made)
     → Meets (o .memory) (o .state) (asked number v held p values) → newIn (asked number v held p values) ≡ true
     → Session p later → NoneNew later

@@ -30,7 +30,8 @@ refusal-rates bytes at d level r why given p f e =
     ap (λ (w : Refusal). refused (refusalNumber w)) (e ∙ ap refusalIn f)
     ∙ sym (sym (ap (onward (after level)) (p .answer)) ∙ ap (λ (x : Counted). onward (after level) (countedPaper x)) f)
 
-module _ (bytes : List ℕ) (at d level : ℕ) {r : Counted} (reading : Reading) (next : ℕ) (p : ReadingPromise bytes at d r) (e : r ≡ C.Counts reading next) {length : Length} (q : SecondsPromise level length) where
+module _ (bytes : List ℕ) (at d level : ℕ) {r : Counted} (reading : Reading) (next : ℕ) (p : ReadingPromise bytes at d r) (e : r ≡ C.Counts reading next)
+    {length : Length} (q : SecondsPromise level length) where
   -- the seconds decide
   by-length : rateMeans bytes at d level ≡ onward (rateValues (record { reading = reading; next = next })) (lengthPaper length)
   by-length =

@@ -93,7 +93,8 @@ above : (v : ℤ) → (signOf v ≡ 1 → ⊥) → v ≡ pos (natAbs v)
 above (pos n) h = refl
 above (negsuc n) h = absurd (h refl)
 
-module _ (bytes : List ℕ) (at d : ℕ) {r : Unpacked} (v : ℤ) (next s : ℕ) (p : UnpackPromise bytes at d r) (e : r ≡ U.Number v next) (q : SignPromise (toZ w32 (ofZ w32 v)) s) where
+module _ (bytes : List ℕ) (at d : ℕ) {r : Unpacked} (v : ℤ) (next s : ℕ) (p : UnpackPromise bytes at d r) (e : r ≡ U.Number v next)
+    (q : SignPromise (toZ w32 (ofZ w32 v)) s) where
   -- the number that was read, as the definitions have it
   means : unpackMeans bytes at d ≡ accepted (record { value = v; next = next })
   means = sym (p .answer) ∙ ap unpackedPaper e

@@ -8,7 +8,8 @@ use lib.Dec.{eqb}
 use lib.Ieee.{Float, ofInt, div, binary64}
 use Rattle.ground.specs.Choice.{pick}
 use Rattle.ground.specs.Paper.{Paper, accepted, refused, refusedWith}
-use Rattle.code.specs.Meaning.{Shape, nought, small, mid, big, leftOut, magnitude, Parsed, found, ranOut, redundantZero, runTooLong, parseAt, Taken, unpackMeans}
+use Rattle.code.specs.Meaning.{Shape, nought, small, mid, big, leftOut, magnitude, Parsed, found, ranOut, redundantZero, runTooLong, parseAt, Taken}
+use Rattle.code.specs.Meaning.{unpackMeans}
 use Rattle.cadence.specs.Meaning.{secondsMeans}
 use Rattle.rate.specs.declared.record.Reading.{Reading}
 use Rattle.rate.specs.declared.record.Reading.the-variants.{Exact, Between}
@@ -16,7 +17,8 @@ use Rattle.rate.specs.declared.record.Rate.{Rate}
 use Rattle.rate.specs.declared.Refusal.{Refusal}
 use Rattle.rate.specs.declared.Refusal.the-variants.{OutsideRule, RanOut, RedundantZero, RunTooLong}
 
--- "A code's error is 0 for drop 0 and m under 16, 3 for drop 3's `0`, 4 for drop 3's 4 to 15, else 2^(d-1), d being the bits left out": the second columns of tables 14 and 15 of 000
+-- "A code's error is 0 for drop 0 and m under 16, 3 for drop 3's `0`, 4 for drop 3's 4 to 15, else 2^(d-1), d being the bits left out": the second columns
+-- of tables 14 and 15 of 000
 abbrev pub error : ℕ → Shape → ℕ
 error d nought = pick (eqb d 0) 0 3
 error d (small s x) = pick (eqb d 0) 0 4

@@ -14,7 +14,8 @@ use Rattle.code.specs.Magnitudes.{magnitude-positive}
 use Rattle.code.specs.Theorems.{read-at, reads-shape}
 use Rattle.cadence.specs.Meaning.{lengthOf, secondsMeans}
 use Rattle.rate.specs.declared.record.Reading.the-variants.{Exact, Between}
-use Rattle.rate.specs.Meaning.{band, exact, asFloat, readingOf, rateOf, ReadingValues, onward, codeRead, negative, numberReads, readingMeans, rateValues, rateMeans}
+use Rattle.rate.specs.Meaning.{band, exact, asFloat, readingOf, rateOf, ReadingValues, onward, codeRead, negative, numberReads, readingMeans}
+use Rattle.rate.specs.Meaning.{rateValues, rateMeans}
 
 -- an accepted code: a drop that is taken, and a valid code, whose value the number is
 pub record WasRead (bytes : List ℕ) (at d : ℕ) (t : Taken) : Type 0 where

@@ -12,7 +12,9 @@ use lib.Dec.{ltb}
 use borrow.Author.Tests.{lt-ltb, le-ltb, ne-eqb}
 use Rattle.ground.specs.Choice.{pick}
 use Rattle.ground.specs.Paper.{Paper, accepted, refused}
-use Rattle.code.specs.Meaning.{Shape, small, mid, big, Parsed, found, ranOut, redundantZero, runTooLong, Taken, counted, fromBits, filled, signed, value, field, bigField, parityThen, unlessZero, afterRun, afterSign, parse, parseAt, bits, answerOf, unpackMeans, dropTaken, largest, longestRun}
+use Rattle.code.specs.Meaning.{Shape, small, mid, big, Parsed, found, ranOut, redundantZero, runTooLong, Taken, counted, fromBits, filled, signed}
+use Rattle.code.specs.Meaning.{value, field, bigField, parityThen, unlessZero, afterRun, afterSign, parse, parseAt, bits, answerOf, unpackMeans}
+use Rattle.code.specs.Meaning.{dropTaken, largest, longestRun}
 use Rattle.code.specs.Shapes.{Drop, none, three, Exact, parse-exact, bits-some}
 use Rattle.code.specs.BitLists.{allBits-drop}
 use Rattle.code.specs.Positions.{allBits-counted}

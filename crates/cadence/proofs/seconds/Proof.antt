@@ -46,7 +46,11 @@ returns-8 c = at (c .match .keys8) refl
 returns-9 : tie.Need-returns-9
 returns-9 c =
     let r = c .match .rest in
-    record { answer = rw (lt-ltb 7 (c .before .args .level) (past (past (past (past (past (past (past (past zero-le (r .0 .0 .0 .0 .0 .0 .0 .1)) (r .0 .0 .0 .0 .0 .0 .1)) (r .0 .0 .0 .0 .0 .1)) (r .0 .0 .0 .0 .1)) (r .0 .0 .0 .1)) (r .0 .0 .1)) (r .0 .1)) (r .1))) }
+    record {
+      answer = rw (lt-ltb 7 (c .before .args .level) (past
+          (past (past (past (past (past (past (past zero-le (r .0 .0 .0 .0 .0 .0 .0 .1)) (r .0 .0 .0 .0 .0 .0 .1)) (r .0 .0 .0 .0 .0 .1)) (r .0 .0 .0 .0 .1))
+          (r .0 .0 .0 .1)) (r .0 .0 .1)) (r .0 .1)) (r .1)));
+    }
 
 pub seconds-spec : {M : Type 1} → statement M
 seconds-spec = tie.close (tie.spec returns returns-2 returns-3 returns-4 returns-5 returns-6 returns-7 returns-8 returns-9)

@@ -12,7 +12,8 @@ use Rattle.format.proofs.float16_code.Statement.{statement}
 use Rattle.format.proofs.float16_code.Tie as tie
 
 -- the sum is the code that the count takes
-taken : (c : tie.After-halved) → Takes (floatValue 12) (2 ^ 27) (c .before .before .before .args .count) (accepted (c .before .halvings .result * 2 ^ 12 + c .halved .result))
+taken : (c : tie.After-halved) → Takes (floatValue 12) (2 ^ 27) (c .before .before .before .args .count)
+    (accepted (c .before .halvings .result * 2 ^ 12 + c .halved .result))
 taken c = took 12 (2 ^ 27) (lit< tt) (lit≤ tt) (c .before .before .if1 .left) (c .before .halvings .ensures .0) (c .halved .ensures)
 
 add-code : tie.Need-add-code

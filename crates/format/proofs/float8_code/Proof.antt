@@ -12,7 +12,8 @@ use Rattle.format.proofs.float8_code.Statement.{statement}
 use Rattle.format.proofs.float8_code.Tie as tie
 
 -- the sum is the code that the count takes
-taken : (c : tie.After-halved) → Takes (floatValue 3) (2 ^ 34) (c .before .before .before .args .count) (accepted (c .before .halvings .result * 2 ^ 3 + c .halved .result))
+taken : (c : tie.After-halved) → Takes (floatValue 3) (2 ^ 34) (c .before .before .before .args .count)
+    (accepted (c .before .halvings .result * 2 ^ 3 + c .halved .result))
 taken c = took 3 (2 ^ 34) (lit< tt) (lit≤ tt) (c .before .before .if1 .left) (c .before .halvings .ensures .0) (c .halved .ensures)
 
 add-code : tie.Need-add-code

@@ -7,7 +7,7 @@ use native.Mathlib.Omega.{arith}
 use lib.ListN.{length, replicate, drop, length-set}
 use borrow.Author.Fill.{fill-none}
 use borrow.Author.Needs.{needs}
-use Rattle.pages.proofs.Clearing.{fill-step}
+use Rattle.ground.specs.Filling.{fill-step}
 use Rattle.histogram.proofs.Calls.{freshened}
 use Rattle.histogram.specs.Words.{stateWords}
 use Rattle.histogram.proofs.fresh.Statement.{statement}

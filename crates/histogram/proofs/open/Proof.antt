@@ -1,7 +1,7 @@
 -- `histogram::open` meets its contract: refused by 13, or memory and state as a fresh one's.
 -- Assumes nothing.
 use borrow.Author.Needs.{needs}
-use Rattle.pages.proofs.Tested.{refused, passed}
+use Rattle.ground.specs.Questions.{answered-no, answered-yes}
 use Rattle.histogram.proofs.Calls.{open-short, open-odd, opened}
 use Rattle.histogram.proofs.open.Statement.{statement}
 use Rattle.histogram.proofs.open.Tie as tie
@@ -10,14 +10,14 @@ returns : tie.Need-returns
 returns c = record { outcome = open-short _ _ (c .if1 .taken) }
 
 returns-2 : tie.Need-returns-2
-returns-2 c = record { outcome = open-odd _ _ (c .before .before .if1 .left) (refused (c .before .sized .ensures .answer) (c .if2 .taken)) }
+returns-2 c = record { outcome = open-odd _ _ (c .before .before .if1 .left) (answered-no (c .before .sized .ensures .answer) (c .if2 .taken)) }
 
 returns-3 : tie.Need-returns-3
 returns-3 c =
     let f = c .before .before in
     let k = f .before .before .before .before in
     let d = k .before .before in
-    let taken = passed (d .before .sized .ensures .answer) (d .if2 .left) in
+    let taken = answered-yes (d .before .sized .ensures .answer) (d .if2 .left) in
     record { outcome = opened _ _ (d .before .before .if1 .left) taken (k .clear .ensures .memory) (f .fresh .ensures) }
 
 pub open-spec : {M : Type 1} → statement M

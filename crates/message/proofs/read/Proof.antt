@@ -16,19 +16,37 @@ returns : tie.Need-returns
 returns c = record { answer = read-short (c .before .before .args .bytes .now) (search needs) }
 
 returns-2 : tie.Need-returns-2
-returns-2 c = record { answer = read-unmarked (c .before .before .before .before .args .bytes .now) (search needs) (unmarked-first (c .before .before .before .before .args .bytes .now) (c .if2 .taken)) }
+returns-2 c =
+    record {
+      answer = read-unmarked (c .before .before .before .before .args .bytes .now) (search needs)
+          (unmarked-first (c .before .before .before .before .args .bytes .now) (c .if2 .taken));
+    }
 
 returns-3 : tie.Need-returns-3
-returns-3 c = record { answer = read-unmarked (c .before .before .before .before .before .before .args .bytes .now) (search needs) (unmarked-second (c .before .before .before .before .before .before .args .bytes .now) (c .before .before .if2 .left) (c .if3 .taken)) }
+returns-3 c =
+    record {
+      answer = read-unmarked (c .before .before .before .before .before .before .args .bytes .now) (search needs)
+          (unmarked-second (c .before .before .before .before .before .before .args .bytes .now) (c .before .before .if2 .left) (c .if3 .taken));
+    }
 
 returns-4 : tie.Need-returns-4
-returns-4 c = record { answer = read-cut (c .before .before .before .before .before .before .before .before .before .args .bytes .now) (c .before .data-size .result) (c .before .data-size .ensures .0 ∙ ap (λ (w : ℕ). dataSize (w / 2 ^ 14)) (word-there (c .before .before .word-at .ensures) (search needs))) (search needs) (marked-both (c .before .before .before .before .before .before .before .before .before .args .bytes .now) (c .before .before .before .before .before .if2 .left) (c .before .before .before .if3 .left)) (search needs) }
+returns-4 c =
+    record {
+      answer = read-cut (c .before .before .before .before .before .before .before .before .before .args .bytes .now) (c .before .data-size .result)
+          (c .before .data-size .ensures .0 ∙ ap (λ (w : ℕ). dataSize (w / 2 ^ 14)) (word-there (c .before .before .word-at .ensures) (search needs)))
+          (search needs) (marked-both (c .before .before .before .before .before .before .before .before .before .args .bytes .now)
+          (c .before .before .before .before .before .if2 .left) (c .before .before .before .if3 .left)) (search needs);
+    }
 
 returns-5 : tie.Need-returns-5
 returns-5 c =
     record {
       answer =
-          read-unsummed (c .before .before .before .before .before .before .before .before .before .before .before .args .bytes .now) (c .before .before .before .data-size .result) (c .before .before .before .data-size .ensures .0 ∙ ap (λ (w : ℕ). dataSize (w / 2 ^ 14)) (word-there (c .before .before .before .before .word-at .ensures) (search needs))) (search needs) (marked-both (c .before .before .before .before .before .before .before .before .before .before .before .args .bytes .now) (c .before .before .before .before .before .before .before .if2 .left) (c .before .before .before .before .before .if3 .left)) (search needs)
+          read-unsummed (c .before .before .before .before .before .before .before .before .before .before .before .args .bytes .now)
+          (c .before .before .before .data-size .result) (c .before .before .before .data-size .ensures .0
+          ∙ ap (λ (w : ℕ). dataSize (w / 2 ^ 14)) (word-there (c .before .before .before .before .word-at .ensures) (search needs))) (search needs)
+          (marked-both (c .before .before .before .before .before .before .before .before .before .before .before .args .bytes .now)
+          (c .before .before .before .before .before .before .before .if2 .left) (c .before .before .before .before .before .if3 .left)) (search needs)
           (answered-no (c .before .checked-front .ensures) (c .if5 .taken));
     }
 
@@ -38,8 +56,15 @@ returns-6 c =
     let size = c .before .before .before .before .data-size .result in
     record {
       answer =
-          ap₂ (λ (w v : ℕ). accepted (record { address = w % 16384; tag = w / 16384; value = v; used = size + 6 })) (word-there (word .ensures) (search needs)) (c .number-at .ensures)
-          ∙ read-so (c .before .before .before .before .before .before .before .before .before .before .before .before .args .bytes .now) (c .before .before .before .before .data-size .result) (c .before .before .before .before .data-size .ensures .0 ∙ ap (λ (w : ℕ). dataSize (w / 2 ^ 14)) (word-there (c .before .before .before .before .before .word-at .ensures) (search needs))) (search needs) (marked-both (c .before .before .before .before .before .before .before .before .before .before .before .before .args .bytes .now) (c .before .before .before .before .before .before .before .before .if2 .left) (c .before .before .before .before .before .before .if3 .left)) (search needs)
+          ap₂ (λ (w v : ℕ). accepted (record { address = w % 16384; tag = w / 16384; value = v; used = size + 6 }))
+          (word-there (word .ensures) (search needs)) (c .number-at .ensures)
+          ∙ read-so (c .before .before .before .before .before .before .before .before .before .before .before .before .args .bytes .now)
+          (c .before .before .before .before .data-size .result)
+          (c .before .before .before .before .data-size .ensures .0
+          ∙ ap (λ (w : ℕ). dataSize (w / 2 ^ 14)) (word-there (c .before .before .before .before .before .word-at .ensures) (search needs))) (search needs)
+          (marked-both (c .before .before .before .before .before .before .before .before .before .before .before .before .args .bytes .now)
+          (c .before .before .before .before .before .before .before .before .if2 .left) (c .before .before .before .before .before .before .if3 .left))
+          (search needs)
           (answered-yes (c .before .before .checked-front .ensures) (c .before .if5 .left));
     }
 

@@ -11,25 +11,58 @@ use Rattle.message.proofs.write.Tie as tie
 
 returns : tie.Need-returns
 returns c =
-    let r = unsayable (c .before .before .before .args .buffer .now) (c .before .before .before .args .address) (c .before .before .before .args .tag) (c .before .before .before .args .value) (answered-no (c .before .sayable-as .ensures) (c .if1 .taken)) in
+    let r = unsayable (c .before .before .before .args .buffer .now) (c .before .before .before .args .address) (c .before .before .before .args .tag)
+    (c .before .before .before .args .value) (answered-no (c .before .sayable-as .ensures) (c .if1 .taken)) in
     record { answer = r .answer; memory = r .memory }
 
 returns-2 : tie.Need-returns-2
 returns-2 c =
-    let r = too-short (c .before .before .before .before .before .args .buffer .now) (c .before .before .before .before .before .args .address) (c .before .before .before .before .before .args .tag) (c .before .before .before .before .before .args .value) (c .before .data-size .result) (c .before .data-size .ensures .0) (answered-yes (c .before .before .before .sayable-as .ensures) (c .before .before .if1 .left)) (search needs) in
+    let r = too-short (c .before .before .before .before .before .args .buffer .now) (c .before .before .before .before .before .args .address)
+    (c .before .before .before .before .before .args .tag) (c .before .before .before .before .before .args .value) (c .before .data-size .result)
+    (c .before .data-size .ensures .0) (answered-yes (c .before .before .before .sayable-as .ensures) (c .before .before .if1 .left)) (search needs) in
     record { answer = r .answer; memory = r .memory }
 
 mul-put-word : tie.Need-mul-put-word
-mul-put-word c = omega (arith, within (c .before .before .before .before .before .before .before .before .before .before .args .address) (c .before .before .before .before .before .before .before .before .before .before .args .tag) (c .before .before .before .before .before .before .before .before .before .before .args .value) (answered-yes (c .before .before .before .before .before .before .before .before .sayable-as .ensures) (c .before .before .before .before .before .before .before .if1 .left)))
+mul-put-word c =
+    omega (
+      arith,
+      within (c .before .before .before .before .before .before .before .before .before .before .args .address)
+          (c .before .before .before .before .before .before .before .before .before .before .args .tag)
+          (c .before .before .before .before .before .before .before .before .before .before .args .value)
+          (answered-yes (c .before .before .before .before .before .before .before .before .sayable-as .ensures)
+          (c .before .before .before .before .before .before .before .if1 .left)),
+    )
 
 add-put-word : tie.Need-add-put-word
-add-put-word c = omega (arith, within (c .before .before .before .before .before .before .before .before .before .before .args .address) (c .before .before .before .before .before .before .before .before .before .before .args .tag) (c .before .before .before .before .before .before .before .before .before .before .args .value) (answered-yes (c .before .before .before .before .before .before .before .before .sayable-as .ensures) (c .before .before .before .before .before .before .before .if1 .left)))
+add-put-word c =
+    omega (
+      arith,
+      within (c .before .before .before .before .before .before .before .before .before .before .args .address)
+          (c .before .before .before .before .before .before .before .before .before .before .args .tag)
+          (c .before .before .before .before .before .before .before .before .before .before .args .value)
+          (answered-yes (c .before .before .before .before .before .before .before .before .sayable-as .ensures)
+          (c .before .before .before .before .before .before .before .if1 .left)),
+    )
 
 returns-3 : tie.Need-returns-3
 returns-3 c =
     let r =
-    done (c .before .before .before .before .before .before .before .before .before .before .before .before .before .before .before .before .before .before .before .before .before .before .before .args .buffer .now) (c .before .before .before .before .before .before .before .before .before .before .before .before .before .before .before .before .before .before .before .before .before .before .before .args .address) (c .before .before .before .before .before .before .before .before .before .before .before .before .before .before .before .before .before .before .before .before .before .before .before .args .tag) (c .before .before .before .before .before .before .before .before .before .before .before .before .before .before .before .before .before .before .before .before .before .before .before .args .value) (c .before .before .before .before .before .before .before .before .before .before .before .before .before .before .before .before .before .before .before .data-size .result) (c .before .before .before .before .before .before .before .before .before .before .before .before .before .before .before .before .before .before .before .data-size .ensures .0) (answered-yes (c .before .before .before .before .before .before .before .before .before .before .before .before .before .before .before .before .before .before .before .before .before .sayable-as .ensures) (c .before .before .before .before .before .before .before .before .before .before .before .before .before .before .before .before .before .before .before .before .if1 .left))
-    (put-there (c .before .before .before .before .before .before .before .before .before .before .before .before .before .before .before .before .put-word .ensures) (search needs)) (put-there (c .before .before .before .before .before .before .before .before .before .before .before .before .put-word2 .ensures) (search needs)) (c .before .before .before .before .before .before .before .before .put-number .ensures)
+    done (c .before .before .before .before .before .before .before .before .before .before .before .before .before .before .before .before .before .before
+    .before .before .before .before .before .args .buffer .now)
+    (c .before .before .before .before .before .before .before .before .before .before .before .before .before .before .before .before .before .before .before
+    .before .before .before .before .args .address) (c .before .before .before .before .before .before .before .before .before .before .before .before .before
+    .before .before .before .before .before .before .before .before .before .before .args .tag)
+    (c .before .before .before .before .before .before .before .before .before .before .before .before .before .before .before .before .before .before .before
+    .before .before .before .before .args .value) (c .before .before .before .before .before .before .before .before .before .before .before .before .before
+    .before .before .before .before .before .before .data-size .result)
+    (c .before .before .before .before .before .before .before .before .before .before .before .before .before .before .before .before .before .before .before
+    .data-size .ensures .0) (answered-yes (c .before .before .before .before .before .before .before .before .before .before .before .before .before .before
+    .before .before .before .before .before .before .before .sayable-as .ensures)
+    (c .before .before .before .before .before .before .before .before .before .before .before .before .before .before .before .before .before .before .before
+    .before .if1 .left))
+    (put-there (c .before .before .before .before .before .before .before .before .before .before .before .before .before .before .before .before .put-word
+    .ensures) (search needs)) (put-there (c .before .before .before .before .before .before .before .before .before .before .before .before .put-word2
+    .ensures) (search needs)) (c .before .before .before .before .before .before .before .before .put-number .ensures)
     (search needs) (c .before .before .before .before .checksum .ensures .answer) (put-there (c .before .before .put-word3 .ensures) (search needs)) in
     record { answer = r .answer; memory = r .memory }
 

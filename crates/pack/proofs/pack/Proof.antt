@@ -24,17 +24,23 @@ code-requires c κs =
 returns : tie.Need-returns
 returns c =
     let a = c .before .before .before .before .before .before .before .before .before .before .before .args in
-    let t = sym (c .before .before .before .before .before .before .before .before .in-rule .ensures) ∙ c .before .before .before .before .before .before .before .if1 .taken in
+    let t = sym (c .before .before .before .before .before .before .before .before .in-rule .ensures)
+    ∙ c .before .before .before .before .before .before .before .if1 .taken in
     let p = c .before .before .place in
     let v-is = toZ-ofZ w32 (a .v) (c .before .before .before .before .before .before .before .before .before .before .before .fits .v) in
-    pack-is (a .buffer .now) (p .last .0) (a .at) (a .v) (a .drop) (c .before .before .before .before .before .before .wide .result) (c .before .before .before .before .before .sign .result) (c .before .before .before .before .before .before .before .before .before .magnitude .result) _ _ (p .result)
-    (c .before .before .before .before .before .before .before .before .before .magnitude .ensures ∙ ap natAbs v-is) (c .before .before .before .before .before .sign .ensures .answer ∙ ap signOf v-is) (c .before .before .before .before .before .before .wide .ensures) t (c .before .before .before .before .code .ensures) (p .ensures)
+    pack-is (a .buffer .now) (p .last .0) (a .at) (a .v) (a .drop) (c .before .before .before .before .before .before .wide .result)
+    (c .before .before .before .before .before .sign .result) (c .before .before .before .before .before .before .before .before .before .magnitude .result) _
+    _ (p .result)
+    (c .before .before .before .before .before .before .before .before .before .magnitude .ensures ∙ ap natAbs v-is)
+    (c .before .before .before .before .before .sign .ensures .answer ∙ ap signOf v-is) (c .before .before .before .before .before .before .wide .ensures) t
+    (c .before .before .before .before .code .ensures) (p .ensures)
 
 returns-2 : tie.Need-returns-2
 returns-2 c =
     let a = c .before .before .before .before .args in
     let v-is = toZ-ofZ w32 (a .v) (c .before .before .before .before .fits .v) in
-    pack-refuses (a .buffer .now) (a .at) (a .v) (a .drop) (c .before .before .magnitude .result) (c .before .before .magnitude .ensures ∙ ap natAbs v-is) (sym (c .before .in-rule .ensures) ∙ c .if1 .left)
+    pack-refuses (a .buffer .now) (a .at) (a .v) (a .drop) (c .before .before .magnitude .result) (c .before .before .magnitude .ensures ∙ ap natAbs v-is)
+    (sym (c .before .in-rule .ensures) ∙ c .if1 .left)
 
 pub pack-spec : {M : Type 1} → statement M
 pack-spec =

@@ -21,7 +21,8 @@ loop-holds : tie.Need-loop-holds Inv-loop μ-loop
 loop-holds c = passed-none (c .before .before .args .capture .now)
 
 returns-2 : tie.Need-returns-2 Inv-loop μ-loop
-returns-2 c = record { answer = here (search needs) (c .before .before .before .loop .inv) (search needs) (sym (c .before .stands-at .ensures) ∙ c .if2 .taken) }
+returns-2 c =
+    record { answer = here (search needs) (c .before .before .before .loop .inv) (search needs) (sym (c .before .stands-at .ensures) ∙ c .if2 .taken) }
 
 loop-again : tie.Need-loop-again Inv-loop μ-loop
 loop-again c = passed-more (c .before .before .before .loop .inv) (search needs) (sym (c .before .stands-at .ensures) ∙ c .if2 .left)

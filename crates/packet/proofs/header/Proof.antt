@@ -20,11 +20,17 @@ returns-2 c =
     record {
       answer =
           ap₂ (λ (a n : ℕ). accepted (record { apid = a; length = n })) (word-there (c .word-at .ensures) (search needs)) (c .before .data-length .ensures .0)
-          ∙ header-here (c .before .before .before .before .before .before .args .capture .now) (c .before .before .before .before .before .before .args .place) (search needs) (sym (c .before .before .before .stands-at .ensures) ∙ c .before .before .if2 .taken);
+          ∙ header-here (c .before .before .before .before .before .before .args .capture .now)
+          (c .before .before .before .before .before .before .args .place) (search needs)
+          (sym (c .before .before .before .stands-at .ensures) ∙ c .before .before .if2 .taken);
     }
 
 returns-3 : tie.Need-returns-3
-returns-3 c = record { answer = header-none (c .before .before .before .before .args .capture .now) (c .before .before .before .before .args .place) (search needs) (sym (c .before .stands-at .ensures) ∙ c .if2 .left) }
+returns-3 c =
+    record {
+      answer = header-none (c .before .before .before .before .args .capture .now) (c .before .before .before .before .args .place) (search needs)
+          (sym (c .before .stands-at .ensures) ∙ c .if2 .left);
+    }
 
 pub header-spec : {M : Type 1} → statement M
 header-spec = tie.close (tie.spec returns (λ c κs. search needs) data-length-requires (λ c. search needs) (λ c κs. search needs) returns-2 returns-3)

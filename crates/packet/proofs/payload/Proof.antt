@@ -35,7 +35,8 @@ returns-2 c =
 returns-3 : tie.Need-returns-3
 returns-3 c =
     let x = c .before .before .before .before .before .args .capture in
-    let e = empty-none (c .before .before .before .before .before .args .capture .now) (c .before .before .before .before .before .args .place) (search needs) (sym (c .before .before .stands-at .ensures) ∙ c .before .if2 .left) in
+    let e = empty-none (c .before .before .before .before .before .args .capture .now) (c .before .before .before .before .before .args .place) (search needs)
+    (sym (c .before .before .stands-at .ensures) ∙ c .before .if2 .left) in
     record { bytes = e .bytes; block = refl; place = sym (add-zero (x .ptr .1)) ∙ ap (λ (n : ℕ). x .ptr .1 + n) (e .start) }
 
 pub payload-spec : {M : Type 1} → statement M

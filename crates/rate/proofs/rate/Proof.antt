@@ -10,7 +10,8 @@ returns : tie.Need-returns
 returns c =
     let a = c .before .before .before .before .before .args in
     record {
-      answer = refusal-rates (now (a .bytes)) (a .at) (a .drop) (a .level) _ _ _ (c .before .before .before .reading .ensures) (c .before .enum-told .given .1) (c .reason .ensures);
+      answer = refusal-rates (now (a .bytes)) (a .at) (a .drop) (a .level) _ _ _ (c .before .before .before .reading .ensures)
+          (c .before .enum-told .given .1) (c .reason .ensures);
     }
 
 returns-2 : tie.Need-returns-2
@@ -18,7 +19,8 @@ returns-2 c =
     let a = c .before .before .before .before .before .before .before .before .args in
     let n = c .before .before .before .before .answer .given in
     record {
-      answer = no-level (now (a .bytes)) (a .at) (a .drop) (a .level) (n .0 .0) (n .0 .1 .0) (c .before .before .before .before .before .before .reading .ensures) (n .1) (c .before .before .seconds .ensures) (c .enum-told2 .given .1);
+      answer = no-level (now (a .bytes)) (a .at) (a .drop) (a .level) (n .0 .0) (n .0 .1 .0)
+          (c .before .before .before .before .before .before .reading .ensures) (n .1) (c .before .before .seconds .ensures) (c .enum-told2 .given .1);
     }
 
 returns-3 : tie.Need-returns-3
@@ -27,7 +29,9 @@ returns-3 c =
     let n = c .before .before .before .before .before .before .answer .given in
     let l = c .before .before .length .given in
     record {
-      answer = forms (now (a .bytes)) (a .at) (a .drop) (a .level) (n .0 .0) (n .0 .1 .0) (c .before .before .before .before .before .before .before .before .reading .ensures) (n .1) (c .before .before .before .before .seconds .ensures) (l .0 .0) _ (l .1) (c .divided .ensures);
+      answer = forms (now (a .bytes)) (a .at) (a .drop) (a .level) (n .0 .0) (n .0 .1 .0)
+          (c .before .before .before .before .before .before .before .before .reading .ensures) (n .1) (c .before .before .before .before .seconds .ensures)
+          (l .0 .0) _ (l .1) (c .divided .ensures);
     }
 
 pub rate-spec : {M : Type 1} → statement M

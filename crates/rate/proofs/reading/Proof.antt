@@ -18,21 +18,25 @@ returns-2 c =
     let a = c .before .before .before .before .before .before .before .args in
     let n = c .before .before .before .answer .given in
     record {
-      answer = negative-read (now (a .bytes)) (a .at) (a .drop) (n .0 .0) (n .0 .1 .0) _ (c .before .before .before .before .before .unpack .ensures) (n .1) (c .before .sign .ensures) (c .if1 .taken);
+      answer = negative-read (now (a .bytes)) (a .at) (a .drop) (n .0 .0) (n .0 .1 .0) _ (c .before .before .before .before .before .unpack .ensures) (n .1)
+          (c .before .sign .ensures) (c .if1 .taken);
     }
 
 counts-requires : tie.Need-counts-requires
 counts-requires c κs =
     let a = c .before .before .before .before .before .before .before .before .args in
     let n = c .before .before .before .before .answer .given in
-    natural-decoded (now (a .bytes)) (a .at) (a .drop) (n .0 .0) (n .0 .1 .0) _ (c .before .before .before .before .before .before .unpack .ensures) (n .1) (c .before .before .sign .ensures) (c .before .if1 .left) _ (c .magnitude .ensures)
+    natural-decoded (now (a .bytes)) (a .at) (a .drop) (n .0 .0) (n .0 .1 .0) _ (c .before .before .before .before .before .before .unpack .ensures) (n .1)
+    (c .before .before .sign .ensures) (c .before .if1 .left) _ (c .magnitude .ensures)
 
 returns-3 : tie.Need-returns-3
 returns-3 c =
     let a = c .before .before .before .before .before .before .before .before .before .args in
     let n = c .before .before .before .before .before .answer .given in
     record {
-      answer = natural-read (now (a .bytes)) (a .at) (a .drop) (n .0 .0) (n .0 .1 .0) _ (c .before .before .before .before .before .before .before .unpack .ensures) (n .1) (c .before .before .before .sign .ensures) (c .before .before .if1 .left) _ (c .before .magnitude .ensures) _ (c .counts .ensures);
+      answer = natural-read (now (a .bytes)) (a .at) (a .drop) (n .0 .0) (n .0 .1 .0) _
+          (c .before .before .before .before .before .before .before .unpack .ensures) (n .1) (c .before .before .before .sign .ensures)
+          (c .before .before .if1 .left) _ (c .before .magnitude .ensures) _ (c .counts .ensures);
     }
 
 pub reading-spec : {M : Type 1} → statement M

@@ -18,7 +18,8 @@ returns c =
     let t = c .before .before .before .before .drop-taken in
     let a = c .before .before .before .before .before .before .args in
     record {
-      answer = unpack-is (now (a .bytes)) (a .at) (a .drop) _ _ (sym (t .ensures) ∙ c .before .before .before .if1 .taken) (c .before .before .end-of .ensures) (c .before .wide .ensures) (c .code .ensures);
+      answer = unpack-is (now (a .bytes)) (a .at) (a .drop) _ _ (sym (t .ensures) ∙ c .before .before .before .if1 .taken)
+          (c .before .before .end-of .ensures) (c .before .wide .ensures) (c .code .ensures);
     }
 
 returns-2 : tie.Need-returns-2

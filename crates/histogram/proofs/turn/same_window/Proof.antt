@@ -1,7 +1,7 @@
 -- `same_window` meets its contract: the kept window's five words one after the other.
 -- Assumes nothing.
 use borrow.Author.Needs.{needs}
-use Rattle.pages.proofs.Tested.{tests}
+use Rattle.ground.specs.Questions.{tests}
 use Rattle.histogram.proofs.turn.same_window.Statement.{statement}
 use Rattle.histogram.proofs.turn.same_window.Tie as tie
 

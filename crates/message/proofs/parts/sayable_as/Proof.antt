@@ -20,7 +20,8 @@ returns-4 : tie.Need-returns-4
 returns-4 c = near (c .before .before .args .address) (c .before .before .args .tag) (c .before .before .args .value) (search needs) (c .match .keys3) refl
 
 returns-5 : tie.Need-returns-5
-returns-5 c = whole (c .before .before .args .address) (c .before .before .args .tag) (c .before .before .args .value) (search needs) (c .match .keys4) (search needs)
+returns-5 c =
+    whole (c .before .before .args .address) (c .before .before .args .tag) (c .before .before .args .value) (search needs) (c .match .keys4) (search needs)
 
 returns-6 : tie.Need-returns-6
 returns-6 c = no-tag (c .before .before .args .address) (c .before .before .args .tag) (c .before .before .args .value) (search needs) (omega arith)

@@ -27,7 +27,8 @@ returns c =
     let a = c .before .before .before .before .args in
     let k = c .before .before .before .leading in
     big-holds (a .drop) (a .sign) (a .m) (k .result) (c .before .before .below .result) (c .before .join .result) _ _
-    (c .before .before .before .before .pre .0) (k .ensures .1) (k .ensures .0) (c .before .before .below .ensures) (c .before .join .ensures .0) (c .coded .ensures)
+    (c .before .before .before .before .pre .0) (k .ensures .1) (k .ensures .0) (c .before .before .below .ensures) (c .before .join .ensures .0)
+    (c .coded .ensures)
 
 pub big-spec : {M : Type 1} → statement M
 big-spec =

@@ -33,7 +33,8 @@ coded-requires c κs =
 returns-2 : tie.Need-returns-2
 returns-2 c =
     let a = c .before .before .before .before .args in
-    small-holds (a .drop) (a .sign) (a .m) _ _ _ (c .before .before .before .least-coded .ensures) (c .before .before .if1 .left) (c .before .if2 .taken) (c .coded .ensures)
+    small-holds (a .drop) (a .sign) (a .m) _ _ _ (c .before .before .before .least-coded .ensures) (c .before .before .if1 .left) (c .before .if2 .taken)
+    (c .coded .ensures)
 
 add-coded : tie.Need-add-coded
 add-coded c = omega (arith, drop-small (c .before .before .before .before .pre .0))
@@ -57,13 +58,15 @@ coded-requires-2 c κs =
 returns-3 : tie.Need-returns-3
 returns-3 c =
     let a = c .before .before .before .before .before .args in
-    mid-holds (a .drop) (a .sign) (a .m) _ _ _ (c .before .before .before .before .least-coded .ensures) (c .before .before .before .if1 .left) (c .before .before .if2 .left)
+    mid-holds (a .drop) (a .sign) (a .m) _ _ _ (c .before .before .before .before .least-coded .ensures) (c .before .before .before .if1 .left)
+    (c .before .before .if2 .left)
     (c .before .if3 .taken) (c .coded2 .ensures)
 
 returns-4 : tie.Need-returns-4
 returns-4 c =
     let a = c .before .before .before .before .before .args in
-    big-code-holds (a .drop) (a .sign) (a .m) _ _ _ (c .before .before .before .before .least-coded .ensures) (c .before .before .before .if1 .left) (c .before .before .if2 .left)
+    big-code-holds (a .drop) (a .sign) (a .m) _ _ _ (c .before .before .before .before .least-coded .ensures) (c .before .before .before .if1 .left)
+    (c .before .before .if2 .left)
     (c .before .if3 .left) (c .big .ensures)
 
 pub code-spec : {M : Type 1} → statement M

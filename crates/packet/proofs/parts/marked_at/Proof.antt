@@ -1,7 +1,7 @@
 -- `packet::marked_at` meets its contract: the first byte that differs settles it.
 -- Assumes nothing.
 use borrow.Author.Needs.{needs}
-use Rattle.packet.proofs.Tests.{tests}
+use Rattle.ground.specs.Questions.{tests}
 use Rattle.packet.proofs.parts.marked_at.Statement.{statement}
 use Rattle.packet.proofs.parts.marked_at.Tie as tie
 

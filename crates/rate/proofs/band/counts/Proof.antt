@@ -16,7 +16,8 @@ returns-2 : tie.Need-returns-2
 returns-2 c =
     let p = c .before .before .before .before .before .pre in
     let a = c .before .before .before .before .before .args in
-    reads-between (a .drop) (a .m) _ (shapeOf (a .drop) 0 (a .m)) (p .decoded) (c .before .before .before .before .error-of .ensures .0) _ (c .before .before .less .ensures .0) (c .before .before .before .if1 .left)
+    reads-between (a .drop) (a .m) _ (shapeOf (a .drop) 0 (a .m)) (p .decoded) (c .before .before .before .before .error-of .ensures .0) _
+    (c .before .before .less .ensures .0) (c .before .before .before .if1 .left)
 
 pub counts-spec : {M : Type 1} → statement M
 counts-spec =

@@ -32,7 +32,8 @@ returns-3 c =
 returns-4 : tie.Need-returns-4
 returns-4 c =
     c .big .ensures
-    ∙ parity-there _ _ _ _ _ _ _ (c .before .before .before .before .before .before .pre .0) (c .before .before .if3 .left) (c .before .before .before .before .if1 .left) (c .before .before .before .if2 .left) (c .before .bit-wide .ensures .0)
+    ∙ parity-there _ _ _ _ _ _ _ (c .before .before .before .before .before .before .pre .0) (c .before .before .if3 .left)
+    (c .before .before .before .before .if1 .left) (c .before .before .before .if2 .left) (c .before .bit-wide .ensures .0)
 
 pub after-run-spec : {M : Type 1} → statement M
 after-run-spec =

@@ -29,7 +29,8 @@ returns c =
     let l = c .before .before .before .before .loop in
     let b = c .before .before .bit in
     answer-by _ _ (l .inv .2)
-    (run-ends _ (l .here) _ _ _ _ (b .result) (c .before .before .before .before .before .before .pre .0) (c .before .before .before .loop-test .taken) (b .ensures .0)
+    (run-ends _ (l .here) _ _ _ _ (b .result) (c .before .before .before .before .before .before .pre .0) (c .before .before .before .loop-test .taken)
+    (b .ensures .0)
     (c .before .if1 .taken))
     (c .after-run .ensures)
 
@@ -38,7 +39,8 @@ returns-2 c =
     let l = c .before .before .before .before .loop in
     let b = c .before .before .bit in
     answer-by _ _ (l .inv .2)
-    (run-too-long _ (l .here) _ _ _ (l .ones) (b .result) (c .before .before .before .before .before .before .pre .0) (c .before .before .before .loop-test .taken) (b .ensures .0)
+    (run-too-long _ (l .here) _ _ _ (l .ones) (b .result) (c .before .before .before .before .before .before .pre .0)
+    (c .before .before .before .loop-test .taken) (b .ensures .0)
     (c .before .if1 .left) (omega arith))
     refl
 
@@ -49,7 +51,8 @@ loop-again c =
       omega arith,
       omega arith,
       l .inv .2
-          ∙ run-goes-on _ (l .here) _ _ _ _ (b .result) (c .before .before .before .before .before .before .pre .0) (c .before .before .before .loop-test .taken) (b .ensures .0)
+          ∙ run-goes-on _ (l .here) _ _ _ _ (b .result) (c .before .before .before .before .before .before .pre .0)
+          (c .before .before .before .loop-test .taken) (b .ensures .0)
           (c .before .if1 .left) (c .if2 .left),
     )
 

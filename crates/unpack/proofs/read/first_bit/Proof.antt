@@ -22,7 +22,8 @@ returns-3 c =
     let b = c .before .before .before .before .bit in
     let s = c .before .bit-wide in
     let p = c .before .before .before .before .before .before .pre in
-    sign-there _ _ _ _ (b .result) (p .0) (p .2) (b .ensures .0) (s .result) (c .before .before .before .if1 .left) (c .before .before .if2 .left) (s .ensures .0) (c .after-sign .ensures)
+    sign-there _ _ _ _ (b .result) (p .0) (p .2) (b .ensures .0) (s .result) (c .before .before .before .if1 .left) (c .before .before .if2 .left)
+    (s .ensures .0) (c .after-sign .ensures)
 
 pub first-bit-spec : {M : Type 1} → statement M
 first-bit-spec =
