@@ -4,3 +4,4 @@ pub mod SameBits
 pub mod Ledger
 pub mod Exported
 pub mod OneOutcome
+pub mod Refusals
