@@ -1,17 +1,22 @@
 -- Demand 2: "A written packet or message reads back as itself". Of the calls' outcomes, whatever follows in the buffer.
 -- Assumes nothing.
 use mathlib.Core.Path.{_≡_, sym, ap, _∙_, subst}
-use mathlib.Core.List.{List}
+use mathlib.Core.List.{List, [], append-nil}
 use Prim.Native.Nat.{ℕ, _+_, _^_, _<_, _≤_}
 use denote.Ref.{RefT}
-use lib.ListN.{length, drop}
+use lib.ListN.{length, length-append, drop, take}
+use lib.Seq.{take-at}
+use native.Mathlib.Omega.{arith}
 use Rattle.ground.specs.Paper.{accepted, one-answer}
+use Rattle.ground.specs.Words.{bytesOf}
+use Rattle.crc.specs.Meaning.{checksumOf}
 use Rattle.packet.specs.declared.Found.{Found}
 use Rattle.packet.specs.declared.Found.the-variants as F
 use Rattle.packet.specs.declared.Headed.{Headed}
 use Rattle.packet.specs.declared.Headed.the-variants as H
 use Rattle.packet.specs.declared.Written.{Written}
 use Rattle.packet.specs.Answers.{foundPaper, foundBack, found-home, headedPaper, headedBack, headed-home, writtenPaper}
+use Rattle.packet.specs.Meaning.{covered, packetOf, payloadMeans}
 use Rattle.packet.specs.Promise.{FindPromise, HeaderPromise, PayloadPromise, WritePromise}
 use Rattle.packet.specs.ReadBack.{written, written-found, written-header, written-payload, write-accepted}
 use Rattle.message.specs.declared.MessageRead.{MessageRead}
@@ -22,30 +27,49 @@ use Rattle.message.specs.Answers as message
 use Rattle.message.specs.Promise as messages
 use Rattle.message.specs.ReadBack as reads
 
+-- a packet has n+10 bytes
+packet-length : (apid : ℕ) (payload : List ℕ) → length (packetOf apid payload) ≡ length payload + 10
+unfolding packetOf
+packet-length apid payload = omega (arith, length-append payload (bytesOf 2 (checksumOf (covered apid payload))))
+
 -- what the calls answer on a buffer that a packet was written into
 pub record PacketAgain (apid : ℕ) (payload after : List ℕ) : Type 0 where
   pub found : (f : Found) → FindPromise after f → f ≡ F.At 0 0
   pub headed : (h : Headed) → HeaderPromise after 0 h → h ≡ H.Packet apid (length payload)
   pub handed : (capture r : RefT (List ℕ)) → capture .now ≡ after → PayloadPromise capture 0 r → r .now ≡ payload
 
--- a packet that `write` accepted is found at 0 with nothing skipped, and has its APID, its length and its data
-pub packet-reads-back : (buffer payload after : List ℕ) (apid n : ℕ) (w : Written) → apid < 2 ^ 16 → length after ≤ 65536
-    → WritePromise buffer apid payload w after → writtenPaper w ≡ accepted n → PacketAgain apid payload after
-packet-reads-back buffer payload after apid n w a fits p e =
-    let so = write-accepted buffer apid payload (sym (p .answer) ∙ e) in
-    let is : after ≡ written apid payload (drop (length payload + 10) buffer) = p .memory ∙ so .leaves in
-    let rest = drop (length payload + 10) buffer in
+-- a packet at the front of a capture is found at 0 with nothing skipped, and has its APID, its length and its data
+packet-again : (apid : ℕ) (payload rest capture : List ℕ) → capture ≡ written apid payload rest → length payload ≤ 8187 → apid < 2 ^ 16 → length capture ≤ 65536
+    → PacketAgain apid payload capture
+packet-again apid payload rest capture is small a fits =
     let short : length (written apid payload rest) ≤ 65536 = subst (λ (l : List ℕ). length l ≤ 65536) is fits in
     record {
       found = λ f q.
           one-answer foundPaper foundBack found-home
-          (subst (λ (l : List ℕ). FindPromise l f) is q .answer) (sym (written-found apid payload rest (so .small) a short));
+          (subst (λ (l : List ℕ). FindPromise l f) is q .answer) (sym (written-found apid payload rest small a short));
       headed = λ h q.
           one-answer headedPaper headedBack headed-home
-          (subst (λ (l : List ℕ). HeaderPromise l 0 h) is q .answer) (sym (written-header apid payload rest (so .small) a short));
-      handed = λ capture r c q.
-          q .bytes ∙ ap (λ (l : List ℕ). Rattle.packet.specs.Meaning.payloadMeans l 0) (c ∙ is) ∙ written-payload apid payload rest (so .small) a short;
+          (subst (λ (l : List ℕ). HeaderPromise l 0 h) is q .answer) (sym (written-header apid payload rest small a short));
+      handed = λ lent r c q. q .bytes ∙ ap (λ (l : List ℕ). payloadMeans l 0) (c ∙ is) ∙ written-payload apid payload rest small a short;
     }
+
+-- what `write` accepted reads back from the whole buffer, where that is a capture
+pub packet-reads-back : (buffer payload after : List ℕ) (apid n : ℕ) (w : Written) → apid < 2 ^ 16 → length after ≤ 65536
+    → WritePromise buffer apid payload w after → writtenPaper w ≡ accepted n → PacketAgain apid payload after
+packet-reads-back buffer payload after apid n w a fits p e =
+    let so = write-accepted buffer apid payload (sym (p .answer) ∙ e) in
+    packet-again apid payload (drop (length payload + 10) buffer) after (p .memory ∙ so .leaves) (so .small) a fits
+
+-- "It answers n+10, and those bytes read back as the packet": those bytes alone, whatever the buffer's length
+pub packet-bytes-read-back : (buffer payload after : List ℕ) (apid n : ℕ) (w : Written) → apid < 2 ^ 16
+    → WritePromise buffer apid payload w after → writtenPaper w ≡ accepted n → PacketAgain apid payload (take n after)
+packet-bytes-read-back buffer payload after apid n w a p e =
+    let so = write-accepted buffer apid payload (sym (p .answer) ∙ e) in
+    let long : length (packetOf apid payload) ≡ n = packet-length apid payload ∙ sym (so .count) in
+    let is : take n after ≡ packetOf apid payload
+    = ap (take n) (p .memory ∙ so .leaves) ∙ take-at (packetOf apid payload) (drop (length payload + 10) buffer) n long in
+    packet-again apid payload [] (take n after) (is ∙ sym (append-nil (packetOf apid payload))) (so .small) a
+    (let same : length (take n after) ≡ n = ap length is ∙ long in omega (arith, same, so .count, so .small))
 
 -- a message that `write` accepted reads as its address, tag and value, with as many bytes used as were written
 pub message-reads-back : (buffer after : List ℕ) (address tag value n : ℕ) (w : MessageWritten) (r : MessageRead)
