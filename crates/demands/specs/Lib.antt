@@ -5,3 +5,4 @@ pub mod Ledger
 pub mod Exported
 pub mod OneOutcome
 pub mod Refusals
+pub mod OneMeaning
