@@ -1,7 +1,8 @@
--- A packet means one thing, read or written: what stands at a place of a capture is the packet of the APID and the data that the calls answer there.
+-- A packet and a message mean one thing, read or written: what stands at a place of a capture is the packet of the APID and the data that the calls answer there, and what
+-- is read as a message is the message of the address, the tag and the value that are answered.
 -- Assumes nothing.
 use mathlib.Core.Path.{_≡_, refl, sym, ap, ap₂, _∙_}
-use mathlib.Core.Bool.{true}
+use mathlib.Core.Bool.{Bool, true, false, not, _&&_}
 use mathlib.Core.List.{List, [], _∷_, _++_, append-assoc}
 use Prim.Native.Nat.{ℕ, suc, _+_, _*_, _/_, _%_, _<_, _≤_}
 use native.Mathlib.Numerals.{add-one}
@@ -9,11 +10,13 @@ use native.Mathlib.Omega.{arith}
 use borrow.Author.Tests.{eqb-true}
 use lib.ListN.{length, length-drop, take, drop, getD}
 use lib.Seq.{drop-cons, drop-drop, getD-drop, length-take-le, take-add}
+use Rattle.ground.specs.Choice.{pick}
+use Rattle.ground.specs.Paper.{accepted, refused}
 use Rattle.ground.specs.Questions.{both-hold}
 use Rattle.ground.specs.Words.{bytesOf, number, wordAt, word-bytes}
 use Rattle.crc.specs.Meaning.{checksumOf}
 use Rattle.packet.specs.Laws.{Standing, standing}
-use Rattle.packet.specs.Meaning.{apidAt, covered, dataLength, mark, packetOf, stands}
+use Rattle.packet.specs.Meaning.{HeaderValues, apidAt, covered, dataLength, headerMeans, mark, packetOf, payloadMeans, stands, tooLong}
 
 -- a list of bytes
 abbrev pub Bytes : List ℕ → Type 0
@@ -105,3 +108,20 @@ stands-is l at b e =
     (ap (take 2) (drop-drop (n + 8) at l)
     ∙ word-back l (at + (n + 8)) b (omega arith)
     ∙ ap (bytesOf 2) (sym (s .sum) ∙ ap checksumOf before))
+
+-- the same of what the calls answer: where `header` answers an APID and n, the n+10 bytes at the place are the packet of that APID and of the data that `payload` hands back
+pub packet-is : (l : List ℕ) (at : ℕ) (v : HeaderValues) → Bytes l → headerMeans l at ≡ accepted v
+    → take (v .length + 10) (drop at l) ≡ packetOf (v .apid) (payloadMeans l at)
+unfolding headerMeans payloadMeans
+packet-is l at v b = by (tooLong l) (stands l at) refl refl
+  where
+    by : (t u : Bool) → tooLong l ≡ t → stands l at ≡ u
+        → pick t (refused 1) (pick u (accepted (record { apid = apidAt l at; length = dataLength l at })) (refused 20)) ≡ accepted v
+        → take (v .length + 10) (drop at l) ≡ packetOf (v .apid) (pick (not t && u) (take (dataLength l at) (drop (at + 8) l)) [])
+    by true u e f a = absurd (let z : _≡_ {A = ℕ} 0 1 = cc in omega arith)
+    by false true e f a =
+        let apid : apidAt l at ≡ v .apid = cc in
+        let long : dataLength l at ≡ v .length = cc in
+        ap (λ (k : ℕ). take (k + 10) (drop at l)) (sym long) ∙ stands-is l at b f
+        ∙ ap (λ (k : ℕ). packetOf k (take (dataLength l at) (drop (at + 8) l))) apid
+    by false false e f a = absurd (let z : _≡_ {A = ℕ} 0 1 = cc in omega arith)
