@@ -1,13 +1,16 @@
 -- A packet and a message mean one thing, read or written: what stands at a place of a capture is the packet of the APID and the data that the calls answer there, and what
 -- is read as a message is the message of the address, the tag and the value that are answered.
 -- Assumes nothing.
-use mathlib.Core.Path.{_≡_, refl, sym, ap, ap₂, _∙_}
+use mathlib.Core.Path.{_≡_, refl, sym, ap, ap₂, subst, _∙_}
 use mathlib.Core.Bool.{Bool, true, false, not, _&&_}
 use mathlib.Core.List.{List, [], _∷_, _++_, append-assoc}
-use Prim.Native.Nat.{ℕ, suc, _+_, _*_, _/_, _%_, _<_, _≤_}
+use Prim.Native.Nat.{ℕ, zero, suc, _+_, _*_, _/_, _%_, _^_, _<_, _≤_}
+use native.Mathlib.Nat.{add-assoc, add-mul, div-add-mod', mul-assoc, mul-comm, pow-suc, zero-add, zero-lt-suc, zero-mul}
 use native.Mathlib.Numerals.{add-one}
 use native.Mathlib.Omega.{arith}
-use borrow.Author.Tests.{eqb-true}
+use borrow.Author.Tests.{eqb-true, ltb-false}
+use lib.Arith.{digits-div, digits-lt, digits-mod}
+use lib.Dec.{ltb}
 use lib.ListN.{length, length-drop, take, drop, getD}
 use lib.Seq.{drop-cons, drop-drop, getD-drop, length-take-le, take-add}
 use Rattle.ground.specs.Choice.{pick}
@@ -15,6 +18,8 @@ use Rattle.ground.specs.Paper.{accepted, refused}
 use Rattle.ground.specs.Questions.{both-hold}
 use Rattle.ground.specs.Words.{bytesOf, number, wordAt, word-bytes}
 use Rattle.crc.specs.Meaning.{checksumOf}
+use Rattle.message.specs.Meaning as message
+use Rattle.message.specs.Meaning.{ReadValues, addressAt, checked, marked, messageOf, readMeans, sizeAt, tagAt, valueAt}
 use Rattle.packet.specs.Laws.{Standing, standing}
 use Rattle.packet.specs.Meaning.{HeaderValues, apidAt, covered, dataLength, headerMeans, mark, packetOf, payloadMeans, stands, tooLong}
 
@@ -45,12 +50,12 @@ word-back l at b h =
 -- the mark's four bytes
 mark-back : (l : List ℕ) (at : ℕ) → Standing l at → take 4 (drop at l) ≡ mark
 mark-back l at s =
-    let m0 = both-hold (s .mark) in
-    let m1 = both-hold (m0 .1) in
-    let m2 = both-hold (m1 .1) in
     let room : at + 10 ≤ length l = s .room in
     let two : at + 2 + 2 ≤ length l = omega arith in
     let one : at + 2 ≤ length l = omega arith in
+    let m0 = both-hold (s .mark) in
+    let m1 = both-hold (m0 .1) in
+    let m2 = both-hold (m1 .1) in
     take-add 2 2 (drop at l)
     ∙ ap₂ (λ (x y : List ℕ). x ++ y) (take-two l at one) (ap (take 2) (drop-drop 2 at l) ∙ take-two l (at + 2) two)
     ∙ ap₂ (λ (x y : ℕ). x ∷ y ∷ getD l (at + 2) 0 ∷ getD l (at + 2 + 1) 0 ∷ []) (eqb-true _ _ (m0 .0)) (eqb-true _ _ (m1 .0))
@@ -125,3 +130,83 @@ packet-is l at v b = by (tooLong l) (stands l at) refl refl
         ap (λ (k : ℕ). take (k + 10) (drop at l)) (sym long) ∙ stands-is l at b f
         ∙ ap (λ (k : ℕ). packetOf k (take (dataLength l at) (drop (at + 8) l))) apid
     by false false e f a = absurd (let z : _≡_ {A = ℕ} 0 1 = cc in omega arith)
+
+-- a part of bytes, and what follows one, are bytes
+bytes-take : (n : ℕ) (l : List ℕ) → Bytes l → Bytes (take n l)
+bytes-take zero l b i = zero-lt-suc 255
+bytes-take (suc n) [] b i = zero-lt-suc 255
+bytes-take (suc n) (x ∷ xs) b zero = b zero
+bytes-take (suc n) (x ∷ xs) b (suc i) = bytes-take n xs (λ j. b (suc j)) i
+
+bytes-drop : (n : ℕ) (l : List ℕ) → Bytes l → Bytes (drop n l)
+bytes-drop n l b i = subst (λ (x : ℕ). x < 256) (sym (getD-drop n l i 0)) (b (n + i))
+
+-- bytes mean a number below 256 to the power of their length
+number-lt : (l : List ℕ) → Bytes l → number l < 256 ^ length l
+number-lt [] b = zero-lt-suc 0
+number-lt (x ∷ xs) b =
+    subst (λ (k : ℕ). x * 256 ^ length xs + number xs < k) (mul-comm 256 (256 ^ length xs) ∙ sym (pow-suc 256 (length xs)))
+    (digits-lt (b 0) (number-lt xs (λ j. b (suc j))))
+
+-- the bytes of what bytes mean are those bytes, whatever lies above them
+bytes-above : (l : List ℕ) → Bytes l → (x : ℕ) → bytesOf (length l) (x * 256 ^ length l + number l) ≡ l
+bytes-above [] b x = refl
+bytes-above (y ∷ ys) b x =
+    let p : ℕ = 256 ^ length ys in
+    let less : number ys < p = number-lt ys (λ j. b (suc j)) in
+    let up : x * 256 ^ suc (length ys) ≡ x * 256 * p
+    = ap (λ (k : ℕ). x * k) (pow-suc 256 (length ys) ∙ mul-comm p 256) ∙ sym (mul-assoc x 256 p) in
+    let whole : x * 256 ^ suc (length ys) + (y * p + number ys) ≡ (x * 256 + y) * p + number ys
+    = ap (λ (k : ℕ). k + (y * p + number ys)) up ∙ sym (add-assoc (x * 256 * p) (y * p) (number ys))
+    ∙ ap (λ (k : ℕ). k + number ys) (sym (add-mul (x * 256) y p)) in
+    ap₂ (λ (k : ℕ) (l : List ℕ). k ∷ l)
+    (ap (λ (k : ℕ). k / p % 256) whole ∙ ap (λ (k : ℕ). k % 256) (digits-div (x * 256 + y) less) ∙ digits-mod x (b 0))
+    (ap (bytesOf (length ys)) whole ∙ bytes-above ys (λ j. b (suc j)) (x * 256 + y))
+
+-- the bytes of what bytes mean are those bytes
+bytes-back : (l : List ℕ) (n : ℕ) → Bytes l → length l ≡ n → bytesOf n (number l) ≡ l
+bytes-back l n b e =
+    let none : 0 * 256 ^ length l + number l ≡ number l = ap (λ (k : ℕ). k + number l) (zero-mul (256 ^ length l)) ∙ zero-add (number l) in
+    ap (λ (k : ℕ). bytesOf k (number l)) (sym e) ∙ ap (bytesOf (length l)) (sym none) ∙ bytes-above l b 0
+
+-- the bytes before a message's checksum are those that it covers
+message-covered : (l : List ℕ) → Bytes l → marked l ≡ true → sizeAt l + 6 ≤ length l
+    → take (sizeAt l + 4) l ≡ message.covered (addressAt l) (tagAt l) (valueAt l)
+message-covered l b m h =
+    let n = sizeAt l in
+    let four : n + 4 ≡ 2 + (2 + n) = omega arith in
+    let long : length (take n (drop 4 l)) ≡ n = length-take-le n (drop 4 l) (omega (arith, length-drop 4 l)) in
+    let marks = both-hold m in
+    ap (λ (k : ℕ). take k l) four
+    ∙ take-add 2 (2 + n) l
+    ∙ ap₂ (λ (x y : List ℕ). x ++ y)
+    (take-two l 0 (omega arith) ∙ ap₂ (λ (x y : ℕ). x ∷ y ∷ []) (eqb-true _ _ (marks .0)) (eqb-true _ _ (marks .1)))
+    (take-add 2 n (drop 2 l)
+    ∙ ap₂ (λ (x y : List ℕ). x ++ y)
+    (word-back l 2 b (omega arith) ∙ ap (bytesOf 2) (sym (div-add-mod' (wordAt l 2) (2 ^ 14))))
+    (ap (take n) (drop-drop 2 2 l) ∙ sym (bytes-back (take n (drop 4 l)) n (bytes-take n (drop 4 l) (bytes-drop 4 l b)) long)))
+
+-- what is read as a message is the message of the address, the tag and the value that are answered: so many bytes as were used
+pub message-is : (l : List ℕ) (v : ReadValues) → Bytes l → readMeans l ≡ accepted v → take (v .used) l ≡ messageOf (v .address) (v .tag) (v .value)
+unfolding readMeans messageOf
+message-is l v b = by (ltb (length l) 4) (marked l) (ltb (length l) (sizeAt l + 6)) (checked l) refl refl refl refl
+  where
+    by : (s m t c : Bool) → ltb (length l) 4 ≡ s → marked l ≡ m → ltb (length l) (sizeAt l + 6) ≡ t → checked l ≡ c
+        → pick s (refused 5) (pick (not m) (refused 4) (pick t (refused 5) (pick (not c) (refused 6)
+        (accepted (record { address = addressAt l; tag = tagAt l; value = valueAt l; used = sizeAt l + 6 }))))) ≡ accepted v
+        → take (v .used) l ≡ messageOf (v .address) (v .tag) (v .value)
+    by true m t c e f g h a = absurd (let z : _≡_ {A = ℕ} 0 1 = cc in omega arith)
+    by false false t c e f g h a = absurd (let z : _≡_ {A = ℕ} 0 1 = cc in omega arith)
+    by false true true c e f g h a = absurd (let z : _≡_ {A = ℕ} 0 1 = cc in omega arith)
+    by false true false false e f g h a = absurd (let z : _≡_ {A = ℕ} 0 1 = cc in omega arith)
+    by false true false true e f g h a =
+        let n = sizeAt l in
+        let room : n + 6 ≤ length l = ltb-false (length l) (n + 6) g in
+        let six : n + 6 ≡ n + 4 + 2 = omega arith in
+        let before = message-covered l b f room in
+        let same : _≡_ {A = ReadValues} (record { address = addressAt l; tag = tagAt l; value = valueAt l; used = n + 6 }) v = cc in
+        let here : take (n + 6) l ≡ messageOf (addressAt l) (tagAt l) (valueAt l)
+        = ap (λ (k : ℕ). take k l) six ∙ take-add (n + 4) 2 l
+        ∙ ap₂ (λ (x y : List ℕ). x ++ y) before
+        (word-back l (n + 4) b (omega arith) ∙ ap (bytesOf 2) (sym (eqb-true _ _ h) ∙ ap checksumOf before)) in
+        subst (λ (x : ReadValues). take (x .used) l ≡ messageOf (x .address) (x .tag) (x .value)) same here
