@@ -1,9 +1,9 @@
--- A packet and a message mean one thing, read or written: what stands at a place of a capture is the packet of the APID and the data that the calls answer there, and what
--- is read as a message is the message of the address, the tag and the value that are answered.
+-- A packet and a message mean one thing, read or written: what stands at a place of a capture is the packet of the APID and the data that the calls
+-- answer there, and what is read as a message is the message of the address, the tag and the value that are answered.
 -- Assumes nothing.
 use mathlib.Core.Path.{_≡_, refl, sym, ap, ap₂, subst, _∙_}
 use mathlib.Core.Bool.{Bool, true, false, not, _&&_}
-use mathlib.Core.List.{List, [], _∷_, _++_, append-assoc}
+use mathlib.Core.List.{List, [], _∷_, _++_}
 use Prim.Native.Nat.{ℕ, zero, suc, _+_, _*_, _/_, _%_, _^_, _<_, _≤_}
 use native.Mathlib.Nat.{add-assoc, add-mul, div-add-mod', mul-assoc, mul-comm, pow-suc, zero-add, zero-lt-suc, zero-mul}
 use native.Mathlib.Numerals.{add-one}
@@ -114,7 +114,8 @@ stands-is l at b e =
     ∙ word-back l (at + (n + 8)) b (omega arith)
     ∙ ap (bytesOf 2) (sym (s .sum) ∙ ap checksumOf before))
 
--- the same of what the calls answer: where `header` answers an APID and n, the n+10 bytes at the place are the packet of that APID and of the data that `payload` hands back
+-- the same of what the calls answer: where `header` answers an APID and n, the n+10 bytes at the place are the packet of that APID and of the data
+-- that `payload` hands back
 pub packet-is : (l : List ℕ) (at : ℕ) (v : HeaderValues) → Bytes l → headerMeans l at ≡ accepted v
     → take (v .length + 10) (drop at l) ≡ packetOf (v .apid) (payloadMeans l at)
 unfolding headerMeans payloadMeans

@@ -1,11 +1,11 @@
--- Demand 1: "on a refusal changes neither memory nor state". For every call that may change what it is lent, of the crates and exported: where it answers another number
--- than 0, all that it was lent is as it was. What is not named here is lent unchangeable, or has no refusals.
+-- Demand 1: "on a refusal changes neither memory nor state". For every call that may change what it is lent, of the crates and exported: where it
+-- answers another number than 0, all that it was lent is as it was. What is not named here is lent unchangeable, or has no refusals.
 -- Assumes nothing.
 use mathlib.Core.Bool.{Bool, true, false, not, _&&_}
-use mathlib.Core.Path.{_≡_, refl, sym, ap, _∙_}
+use mathlib.Core.Path.{_≡_, refl, ap, _∙_}
 use mathlib.Core.List.{List}
 use Prim.Native.Nat.{ℕ, _+_}
-use lib.Dec.{leb, ltb}
+use lib.Dec.{ltb}
 use lib.IntN.{ℤ}
 use lib.ListN.{length}
 use Rattle.ground.specs.Choice.{pick, pick-elim}
@@ -26,7 +26,7 @@ use Rattle.pages.specs.declared.CountAnswer.{CountAnswer}
 use Rattle.pages.specs.declared.Taken as pages
 use Rattle.pages.specs.declared.Window.{Window}
 use Rattle.pages.specs.Answers.{countPaper, takenPaper}
-use Rattle.pages.specs.Meaning.{PageOutcome, countMeans, sizedOf, takeMeans}
+use Rattle.pages.specs.Meaning.{PageOutcome, sizedOf}
 use Rattle.pages.specs.Outcomes.{count-elim, take-elim}
 use Rattle.pages.specs.Promise.{CountPromise, TakePromise}
 use Rattle.histogram.specs.Meaning.{Outcome, Value, openMeans, roomy}
@@ -54,7 +54,8 @@ module _ (buffer : List ℕ) (apid : ℕ) (payload : List ℕ) where
   packet-stays f = chain (ltb 8187 (length payload)) (ltb (length buffer) (length payload + 10)) 2 3 (length payload + 10) buffer _ f
 
   -- the call
-  pub packet-write-refused : (r : Written) (after : List ℕ) → WritePromise buffer apid payload r after → Refuses (numberOf (packets.writtenPaper r)) → after ≡ buffer
+  pub packet-write-refused : (r : Written) (after : List ℕ) → WritePromise buffer apid payload r after
+      → Refuses (numberOf (packets.writtenPaper r)) → after ≡ buffer
   packet-write-refused r after p f = p .memory ∙ packet-stays (λ z. f (ap numberOf (p .answer) ∙ z))
 
 module _ (buffer : List ℕ) (address tag value : ℕ) where
@@ -138,8 +139,8 @@ told-number places (accepted v) held = refl
 told-number places (refused n) held = refl
 told-number places (refusedWith n x) held = refl
 
--- an exported call whose promise is what is told: its lent places keep what they held. It serves a header, a message and a code read, a reading, a rate, the codes and the
--- counts of the formats, and the cadence
+-- an exported call whose promise is what is told: its lent places keep what they held. It serves a header, a message and a code read, a reading, a
+-- rate, the codes and the counts of the formats, and the cadence
 pub exported-refused : {A X : Type 0} (places : A → X) (p : Paper A) (held : X) (o : ℕ × X) → o ≡ toldAs places p held → Refuses (o .0) → o .1 ≡ held
 exported-refused {A} {X} places p held o e f =
     ap (λ (y : ℕ × X). y .1) e
