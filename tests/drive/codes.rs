@@ -33,22 +33,27 @@ fn unpack(tally: &mut Tally, bytes: &[u8], at: u64, drop: u8, held: u64) {
     tally.compare(|| format!("unpack {bytes:02x?} at {at}, drop {drop}"), (number, value, next), plain);
 }
 
+/// The bits of a NaN, of either sign, quiet or signalling: a refused call keeps them as they are.
+fn nan(held: u64) -> u64 {
+    0x7ff0_0000_0000_0001 | held & 0x800f_ffff_ffff_fffe
+}
+
 fn reading(tally: &mut Tally, bytes: &[u8], at: u64, drop: u8, held: u64) {
-    let (mut low, mut high, mut exact, mut next) = (held as f64, 0.5, held as u8, held);
+    let (mut low, mut high, mut exact, mut next) = (f64::from_bits(held), f64::from_bits(nan(held)), held as u8, held);
     let number = unsafe {
         raw::plv_reading(bytes.as_ptr(), bytes.len(), at, drop, &mut low, &mut high, &mut exact, &mut next)
     };
     tally.answered("reading", number);
     let plain = match code::edges(bytes, at, drop) {
         Ok((low, high, exact, next)) => (0, (low as f64).to_bits(), (high as f64).to_bits(), exact as u8, next),
-        Err(number) => (number, (held as f64).to_bits(), 0.5f64.to_bits(), held as u8, held),
+        Err(number) => (number, held, nan(held), held as u8, held),
     };
     let proved = (number, low.to_bits(), high.to_bits(), exact, next);
     tally.compare(|| format!("reading of {bytes:02x?} at {at}, drop {drop}"), proved, plain);
 }
 
 fn rate(tally: &mut Tally, bytes: &[u8], at: u64, drop: u8, level: u8, held: u64) {
-    let (mut low, mut high, mut seconds, mut next) = (held as f64, 0.5, 0.25, held);
+    let (mut low, mut high, mut seconds, mut next) = (f64::from_bits(nan(held)), f64::from_bits(held), f64::from_bits(nan(!held)), held);
     let number = unsafe {
         raw::plv_rate(bytes.as_ptr(), bytes.len(), at, drop, level, &mut low, &mut high, &mut seconds, &mut next)
     };
@@ -56,7 +61,7 @@ fn rate(tally: &mut Tally, bytes: &[u8], at: u64, drop: u8, level: u8, held: u64
     let answer = code::edges(bytes, at, drop).and_then(|edges| cadence::seconds(level).map(|s| (edges, s as f64)));
     let plain = match answer {
         Ok(((low, high, _, next), s)) => (0, (low as f64 / s).to_bits(), (high as f64 / s).to_bits(), s.to_bits(), next),
-        Err(number) => (number, (held as f64).to_bits(), 0.5f64.to_bits(), 0.25f64.to_bits(), held),
+        Err(number) => (number, nan(held), held, nan(!held), held),
     };
     let proved = (number, low.to_bits(), high.to_bits(), seconds.to_bits(), next);
     tally.compare(|| format!("rate of {bytes:02x?} at {at}, drop {drop}, level {level}"), proved, plain);
