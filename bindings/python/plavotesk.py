@@ -146,7 +146,7 @@ def checksum(given):
     return _loaded.plv_checksum(*_lent(given))
 
 
-def find(capture):
+def packet_find(capture):
     """The first place where a packet stands, and the bytes skipped before it. Refusal 20 carries the bytes skipped."""
     place, skipped = _u64(), _u64()
     number = _loaded.plv_packet_find(*_lent(capture), place, skipped)
@@ -156,44 +156,44 @@ def find(capture):
     return Found(place.value, skipped.value)
 
 
-def header(capture, place):
+def packet_header(capture, place):
     """The APID and the bytes of data of the packet at a place."""
     apid, length = _u16(), _u16()
     _accepted(_loaded.plv_packet_header(*_lent(capture), _fits(place, 64), apid, length))
     return Header(apid.value, length.value)
 
 
-def payload(capture, place):
+def packet_payload(capture, place):
     """The data of the packet at a place, as a memoryview into the capture; empty where no packet stands."""
     start, length = _u64(), _u64()
     _loaded.plv_packet_payload(*_lent(capture), _fits(place, 64), start, length)
     return memoryview(capture).cast('B')[start.value:start.value + length.value]
 
 
-def write_packet(buffer, apid, data):
+def packet_write(buffer, apid, data):
     """Writes a packet to the front of a bytearray, and answers its bytes."""
     return _one(_loaded.plv_packet_write, _u64, *_into(buffer), _fits(apid, 16), *_lent(data))
 
 
-def read_message(given):
+def message_read(given):
     """The message at the front of the bytes, and the bytes it used."""
     address, tag, value, used = _u16(), _u8(), _u64(), _u64()
     _accepted(_loaded.plv_message_read(*_lent(given), address, tag, value, used))
     return Message(address.value, tag.value, value.value), used.value
 
 
-def write_message(buffer, message):
+def message_write(buffer, message):
     """Writes a message to the front of a bytearray, and answers its bytes."""
     address, tag, value = message
     return _one(_loaded.plv_message_write, _u64, *_into(buffer), _fits(address, 16), _fits(tag, 8), _fits(value, 64))
 
 
-def pack(buffer, at, value, drop):
+def code_pack(buffer, at, value, drop):
     """Packs a number at a bit position of a bytearray, and answers the next position."""
     return _one(_loaded.plv_code_pack, _u64, *_into(buffer), _fits(at, 64), _fits(value, 32, signed=True), _fits(drop, 8))
 
 
-def unpack(given, at, drop):
+def code_unpack(given, at, drop):
     """The number of the code at a bit position, and the next position."""
     value, position = _i32(), _u64()
     _accepted(_loaded.plv_code_unpack(*_lent(given), _fits(at, 64), _fits(drop, 8), value, position))

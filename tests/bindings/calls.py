@@ -21,35 +21,35 @@ def pair(values):
 def packets():
     print(f'checksum: {plavotesk.checksum(b"123456789"):04x}')
     capture = bytearray([0xee] * 30)
-    line('write', lambda: plavotesk.write_packet(memoryview(capture)[7:], 0x0301, b'counts'))
+    line('write', lambda: plavotesk.packet_write(memoryview(capture)[7:], 0x0301, b'counts'))
     print(f'capture: {capture.hex()}')
-    line('find', lambda: plavotesk.find(capture), pair)
-    line('find nothing', lambda: plavotesk.find(capture[:22]), pair)
-    line('find in too much', lambda: plavotesk.find(bytes(65537)), pair)
-    line('header', lambda: plavotesk.header(capture, 7), pair)
-    line('header elsewhere', lambda: plavotesk.header(capture, 8), pair)
-    print(f'payload: {plavotesk.payload(capture, 7).hex()}')
-    print(f'payload elsewhere: {plavotesk.payload(capture, 8).hex()}')
-    line('write too much', lambda: plavotesk.write_packet(capture, 1, bytes(8188)))
-    line('write into too little', lambda: plavotesk.write_packet(memoryview(capture)[:9], 1, b''))
+    line('find', lambda: plavotesk.packet_find(capture), pair)
+    line('find nothing', lambda: plavotesk.packet_find(capture[:22]), pair)
+    line('find in too much', lambda: plavotesk.packet_find(bytes(65537)), pair)
+    line('header', lambda: plavotesk.packet_header(capture, 7), pair)
+    line('header elsewhere', lambda: plavotesk.packet_header(capture, 8), pair)
+    print(f'payload: {plavotesk.packet_payload(capture, 7).hex()}')
+    print(f'payload elsewhere: {plavotesk.packet_payload(capture, 8).hex()}')
+    line('write too much', lambda: plavotesk.packet_write(capture, 1, bytes(8188)))
+    line('write into too little', lambda: plavotesk.packet_write(memoryview(capture)[:9], 1, b''))
 
 
 def messages():
     buffer = bytearray([0xee] * 12)
-    line('write message', lambda: plavotesk.write_message(buffer, Message(0x1234, 2, 0xdeadbeef)))
+    line('write message', lambda: plavotesk.message_write(buffer, Message(0x1234, 2, 0xdeadbeef)))
     print(f'message: {buffer.hex()}')
 
     def said(read):
         message, used = read
         return f'{message.address:x} {message.tag} {message.value:x} {used}'
 
-    line('read message', lambda: plavotesk.read_message(buffer), said)
-    line('read cut message', lambda: plavotesk.read_message(buffer[:9]), said)
-    line('read no message', lambda: plavotesk.read_message(bytes(4)), said)
+    line('read message', lambda: plavotesk.message_read(buffer), said)
+    line('read cut message', lambda: plavotesk.message_read(buffer[:9]), said)
+    line('read no message', lambda: plavotesk.message_read(bytes(4)), said)
     buffer[5] ^= 1
-    line('read damaged message', lambda: plavotesk.read_message(buffer), said)
-    line('write stray bits', lambda: plavotesk.write_message(buffer, Message(0, 0, 1)))
-    line('write message into too little', lambda: plavotesk.write_message(memoryview(buffer)[:5], Message(0, 0, 0)))
+    line('read damaged message', lambda: plavotesk.message_read(buffer), said)
+    line('write stray bits', lambda: plavotesk.message_write(buffer, Message(0, 0, 1)))
+    line('write message into too little', lambda: plavotesk.message_write(memoryview(buffer)[:5], Message(0, 0, 0)))
 
 
 def reads(answer):
@@ -68,13 +68,13 @@ def codes():
     cases = [(0, 0), (5, 0), (-16, 0), (32, 0), (100, 0), (3, 3), (4, 3), (33554431, 0), (33554432, 0), (5, 1)]
     for value, drop in cases:
         buffer = bytearray([0xff] * 4)
-        line(f'pack {value} drop {drop}', lambda: plavotesk.pack(buffer, 3, value, drop))
+        line(f'pack {value} drop {drop}', lambda: plavotesk.code_pack(buffer, 3, value, drop))
         print(f'bits: {buffer.hex()}')
-        line('unpack', lambda: plavotesk.unpack(buffer, 3, drop), pair)
+        line('unpack', lambda: plavotesk.code_unpack(buffer, 3, drop), pair)
         line('reading', lambda: plavotesk.reading(buffer, 3, drop), reads)
         line('rate', lambda: plavotesk.rate(buffer, 3, drop, 1), rates)
-    line('pack into nothing', lambda: plavotesk.pack(bytearray(), 0, 5, 0))
-    line('unpack nothing', lambda: plavotesk.unpack(b'', 0, 0), pair)
+    line('pack into nothing', lambda: plavotesk.code_pack(bytearray(), 0, 5, 0))
+    line('unpack nothing', lambda: plavotesk.code_unpack(b'', 0, 0), pair)
     line('rate at level 8', lambda: plavotesk.rate(b'\0', 0, 0, 8), rates)
 
 
@@ -121,7 +121,7 @@ def histogram():
 
 def cut():
     """Numbers that do not fit are refused before they would be cut; other kinds of buffers are taken by their bytes."""
-    for call in (lambda: plavotesk.float16_count(1 << 16), lambda: plavotesk.unpack(b'', -1, 0), lambda: plavotesk.pack(bytearray(4), 0, 1 << 31, 0)):
+    for call in (lambda: plavotesk.float16_count(1 << 16), lambda: plavotesk.code_unpack(b'', -1, 0), lambda: plavotesk.code_pack(bytearray(4), 0, 1 << 31, 0)):
         try:
             call()
         except OverflowError:

@@ -21,40 +21,40 @@ fn hex(bytes: &[u8]) -> String {
 fn packets() {
     println!("checksum: {:04x}", checksum(b"123456789"));
     let mut capture = [0xee; 30];
-    line("write", write_packet(&mut capture[7..], 0x0301, b"counts"), |n| n.to_string());
+    line("write", packet_write(&mut capture[7..], 0x0301, b"counts"), |n| n.to_string());
     println!("capture: {}", hex(&capture));
     let found = |f: Found| format!("{} {}", f.place, f.skipped);
-    line("find", find(&capture), found);
-    line("find nothing", find(&capture[..22]), found);
-    line("find in too much", find(&[0; 65_537]), found);
-    line("header", header(&capture, 7), |h| format!("{} {}", h.apid, h.length));
-    line("header elsewhere", header(&capture, 8), |h| format!("{} {}", h.apid, h.length));
-    println!("payload: {}", hex(payload(&capture, 7)));
-    println!("payload elsewhere: {}", hex(payload(&capture, 8)));
-    line("write too much", write_packet(&mut capture, 1, &[0; 8188]), |n| n.to_string());
-    line("write into too little", write_packet(&mut capture[..9], 1, b""), |n| n.to_string());
+    line("find", packet_find(&capture), found);
+    line("find nothing", packet_find(&capture[..22]), found);
+    line("find in too much", packet_find(&[0; 65_537]), found);
+    line("header", packet_header(&capture, 7), |h| format!("{} {}", h.apid, h.length));
+    line("header elsewhere", packet_header(&capture, 8), |h| format!("{} {}", h.apid, h.length));
+    println!("payload: {}", hex(packet_payload(&capture, 7)));
+    println!("payload elsewhere: {}", hex(packet_payload(&capture, 8)));
+    line("write too much", packet_write(&mut capture, 1, &[0; 8188]), |n| n.to_string());
+    line("write into too little", packet_write(&mut capture[..9], 1, b""), |n| n.to_string());
 }
 
 fn messages() {
     let mut buffer = [0xee; 12];
-    line("write message", write_message(&mut buffer, Message { address: 0x1234, tag: 2, value: 0xdead_beef }), |n| n.to_string());
+    line("write message", message_write(&mut buffer, Message { address: 0x1234, tag: 2, value: 0xdead_beef }), |n| n.to_string());
     println!("message: {}", hex(&buffer));
     let said = |(m, used): (Message, usize)| format!("{:x} {} {:x} {used}", m.address, m.tag, m.value);
-    line("read message", read_message(&buffer), said);
-    line("read cut message", read_message(&buffer[..9]), said);
-    line("read no message", read_message(&[0; 4]), said);
+    line("read message", message_read(&buffer), said);
+    line("read cut message", message_read(&buffer[..9]), said);
+    line("read no message", message_read(&[0; 4]), said);
     buffer[5] ^= 1;
-    line("read damaged message", read_message(&buffer), said);
-    line("write stray bits", write_message(&mut buffer, Message { address: 0, tag: 0, value: 1 }), |n| n.to_string());
-    line("write message into too little", write_message(&mut buffer[..5], Message { address: 0, tag: 0, value: 0 }), |n| n.to_string());
+    line("read damaged message", message_read(&buffer), said);
+    line("write stray bits", message_write(&mut buffer, Message { address: 0, tag: 0, value: 1 }), |n| n.to_string());
+    line("write message into too little", message_write(&mut buffer[..5], Message { address: 0, tag: 0, value: 0 }), |n| n.to_string());
 }
 
 fn codes() {
     for (value, drop) in [(0, 0), (5, 0), (-16, 0), (32, 0), (100, 0), (3, 3), (4, 3), (33_554_431, 0), (33_554_432, 0), (5, 1)] {
         let mut buffer = [0xff; 4];
-        line(&format!("pack {value} drop {drop}"), pack(&mut buffer, 3, value, drop), |next| next.to_string());
+        line(&format!("pack {value} drop {drop}"), code_pack(&mut buffer, 3, value, drop), |next| next.to_string());
         println!("bits: {}", hex(&buffer));
-        line("unpack", unpack(&buffer, 3, drop), |(value, next)| format!("{value} {next}"));
+        line("unpack", code_unpack(&buffer, 3, drop), |(value, next)| format!("{value} {next}"));
         let reads = |(reading, next)| match reading {
             Reading::Exact(count) => format!("exactly {count:.1} {next}"),
             Reading::Between(low, high) => format!("{low:.1} to {high:.1} {next}"),
@@ -62,8 +62,8 @@ fn codes() {
         line("reading", reading(&buffer, 3, drop), reads);
         line("rate", rate(&buffer, 3, drop, 1), |(r, next)| format!("{:.3} to {:.3} over {:.1} {next}", r.low, r.high, r.seconds));
     }
-    line("pack into nothing", pack(&mut [], 0, 5, 0), |next| next.to_string());
-    line("unpack nothing", unpack(&[], 0, 0), |(value, next)| format!("{value} {next}"));
+    line("pack into nothing", code_pack(&mut [], 0, 5, 0), |next| next.to_string());
+    line("unpack nothing", code_unpack(&[], 0, 0), |(value, next)| format!("{value} {next}"));
     line("rate at level 8", rate(&[0], 0, 0, 8), |(r, next)| format!("{} {next}", r.low));
 }
 

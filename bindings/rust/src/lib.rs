@@ -75,7 +75,7 @@ pub struct Found {
 }
 
 /// The first place where a packet stands. Refusal 20 carries the bytes skipped.
-pub fn find(capture: &[u8]) -> Answer<Found> {
+pub fn packet_find(capture: &[u8]) -> Answer<Found> {
     let (mut place, mut skipped) = (0, 0);
     match unsafe { raw::plv_packet_find(capture.as_ptr(), capture.len(), &mut place, &mut skipped) } {
         0 => Ok(Found { place: place as usize, skipped }),
@@ -92,21 +92,21 @@ pub struct Header {
 }
 
 /// The header of the packet at a place.
-pub fn header(capture: &[u8], place: usize) -> Answer<Header> {
+pub fn packet_header(capture: &[u8], place: usize) -> Answer<Header> {
     let (mut apid, mut length) = (0, 0);
     let number = unsafe { raw::plv_packet_header(capture.as_ptr(), capture.len(), place as u64, &mut apid, &mut length) };
     answer(number, Header { apid, length })
 }
 
 /// The data of the packet at a place, as a part of the capture; an empty part where no packet stands.
-pub fn payload(capture: &[u8], place: usize) -> &[u8] {
+pub fn packet_payload(capture: &[u8], place: usize) -> &[u8] {
     let (mut start, mut length) = (0, 0);
     unsafe { raw::plv_packet_payload(capture.as_ptr(), capture.len(), place as u64, &mut start, &mut length) };
     &capture[start as usize..][..length as usize]
 }
 
 /// Writes a packet to the front of a buffer, and answers its bytes.
-pub fn write_packet(buffer: &mut [u8], apid: u16, data: &[u8]) -> Answer<usize> {
+pub fn packet_write(buffer: &mut [u8], apid: u16, data: &[u8]) -> Answer<usize> {
     let mut written = 0;
     let number = unsafe {
         raw::plv_packet_write(buffer.as_mut_ptr(), buffer.len(), apid, data.as_ptr(), data.len(), &mut written)
@@ -123,7 +123,7 @@ pub struct Message {
 }
 
 /// The message at the front of the bytes, and the bytes it used.
-pub fn read_message(bytes: &[u8]) -> Answer<(Message, usize)> {
+pub fn message_read(bytes: &[u8]) -> Answer<(Message, usize)> {
     let (mut address, mut tag, mut value, mut used) = (0, 0, 0, 0);
     let number = unsafe {
         raw::plv_message_read(bytes.as_ptr(), bytes.len(), &mut address, &mut tag, &mut value, &mut used)
@@ -132,7 +132,7 @@ pub fn read_message(bytes: &[u8]) -> Answer<(Message, usize)> {
 }
 
 /// Writes a message to the front of a buffer, and answers its bytes.
-pub fn write_message(buffer: &mut [u8], message: Message) -> Answer<usize> {
+pub fn message_write(buffer: &mut [u8], message: Message) -> Answer<usize> {
     let mut written = 0;
     let Message { address, tag, value } = message;
     let number = unsafe {
@@ -142,14 +142,14 @@ pub fn write_message(buffer: &mut [u8], message: Message) -> Answer<usize> {
 }
 
 /// Packs a number at a bit position, and answers the next position.
-pub fn pack(buffer: &mut [u8], at: u64, value: i32, drop: u8) -> Answer<u64> {
+pub fn code_pack(buffer: &mut [u8], at: u64, value: i32, drop: u8) -> Answer<u64> {
     let mut next = 0;
     let number = unsafe { raw::plv_code_pack(buffer.as_mut_ptr(), buffer.len(), at, value, drop, &mut next) };
     answer(number, next)
 }
 
 /// The number of the code at a bit position, and the next position.
-pub fn unpack(bytes: &[u8], at: u64, drop: u8) -> Answer<(i32, u64)> {
+pub fn code_unpack(bytes: &[u8], at: u64, drop: u8) -> Answer<(i32, u64)> {
     let (mut value, mut next) = (0, 0);
     let number = unsafe { raw::plv_code_unpack(bytes.as_ptr(), bytes.len(), at, drop, &mut value, &mut next) };
     answer(number, (value, next))
