@@ -1,0 +1,202 @@
+"""A board that lives in a file, and goes on after its bench died.
+
+Every call is written down before its answer is given. Calls are deterministic, so opening the file plays them again and is exactly where
+the bench was: an ask that was written down is answered again with the same sum, whether its first answer was seen or not, and one that was
+not written down has cleared nothing.
+
+    board = plavotesk.BoardFile('board-17.plv', 64)      # made, or gone on with
+    if board.open_ask:                                   # the bench died between asking and filing
+        file(board.open_ask.answer().sum)
+        board.open_ask.file()
+
+A file is a mark and records. A record is its kind, the length of what follows, a checksum of these two, what follows, and a checksum of it.
+A torn last record is what a bench left that died as it wrote: nothing was answered by it, and it is dropped. A file that is damaged elsewhere
+is refused, and left as it is. One process at a time has a file, by a lock on it.
+"""
+from __future__ import annotations
+
+import array
+import contextlib
+import ctypes
+import fcntl
+import os
+import struct
+import zlib
+from typing import Any, Iterator
+
+from ._lent import whole
+from .board import _ASK, STATE_WORDS, Ask, Histogram, Window
+from .refusals import Refusal
+
+_MARK = b'PLAVOTESK board 1\n'
+_HEAD = struct.Struct('<1sII')
+_SUM = struct.Struct('<I')
+_SNAPSHOT_AFTER = 1 << 22
+
+
+class BoardDamaged(Exception):
+    """The file is no board's, or it is damaged elsewhere than at its end; it was left as it is."""
+
+
+class BoardInUse(Exception):
+    """Another process has the file."""
+
+
+def _record(kind: bytes, said: bytes) -> bytes:
+    """A record."""
+    head = struct.pack('<1sI', kind, len(said))
+    return head + _SUM.pack(zlib.crc32(head)) + said + _SUM.pack(zlib.crc32(said))
+
+
+def _records(text: bytes, path: str) -> Iterator[tuple[bytes, bytes, int]]:
+    """The whole records of a file, each with the place where it ends; a torn last one is left out."""
+    at = len(_MARK)
+    while at < len(text):
+        head = text[at:at + _HEAD.size]
+        if len(head) < _HEAD.size or not any(text[at:]):
+            return
+        kind, length, check = _HEAD.unpack(head)
+        if zlib.crc32(head[:5]) != check:
+            raise BoardDamaged(f'{path} is damaged at byte {at}: a record has a wrong head')
+        end = at + _HEAD.size + length + _SUM.size
+        said = text[at + _HEAD.size:end - _SUM.size]
+        if end > len(text):
+            return
+        if zlib.crc32(said) != _SUM.unpack(text[end - _SUM.size:end])[0]:
+            if end == len(text):
+                return
+            raise BoardDamaged(f'{path} is damaged at byte {at}: a record does not have its checksum')
+        yield kind, said, end
+        at = end
+
+
+class BoardFile(Histogram):
+    """A board whose every call is written down in a file before it is answered. Asks and flips are flushed to the disk."""
+
+    def __init__(self, path: Any, counters: int | None = None) -> None:
+        """Goes on with the board of a file, or makes a fresh one of so many counters a page. BoardInUse where another process has it,
+        BoardDamaged where it cannot be read, ValueError where its counters are others than said."""
+        self._path = os.fspath(path)
+        self._file: int | None = os.open(self._path, os.O_RDWR | os.O_CREAT | os.O_CLOEXEC, 0o644)
+        try:
+            self._take(counters)
+        except BaseException:
+            self.close()
+            raise
+
+    def _take(self, counters: int | None) -> None:
+        """Locks the file and reads it."""
+        try:
+            fcntl.flock(self._file, fcntl.LOCK_EX | fcntl.LOCK_NB)
+        except BlockingIOError:
+            raise BoardInUse(f'another process has {self._path}') from None
+        with open(self._path, 'rb') as file:
+            text = file.read()
+        self._since = 0
+        self._playing = True
+        if len(text) < len(_MARK) and _MARK.startswith(text):
+            self._make(counters)
+        elif not text.startswith(_MARK):
+            raise BoardDamaged(f'{self._path} is not the file of a board')
+        else:
+            self._go_on(text, counters)
+        self._playing = False
+
+    def _make(self, counters: int | None) -> None:
+        """A fresh board and its file."""
+        if counters is None:
+            raise ValueError(f'{self._path} is new: say how many counters a page has')
+        super().__init__(counters)
+        os.ftruncate(self._file, 0)
+        self._put(_MARK + self._snapshot(), flush=True)
+        folder = os.open(os.path.dirname(os.path.abspath(self._path)), os.O_RDONLY)
+        os.fsync(folder)
+        os.close(folder)
+
+    def _go_on(self, text: bytes, counters: int | None) -> None:
+        """The board as the file says: the last whole snapshot, and what was done since."""
+        records = list(_records(text, self._path))
+        last = max((i for i, record in enumerate(records) if record[0] == b'S'), default=None)
+        if last is None:
+            if len(text) > len(_MARK) + 64:
+                raise BoardDamaged(f'{self._path} has no whole snapshot')
+            return self._make(counters)
+        self._restore(records[last][1])
+        if counters is not None and whole('counters', counters) != self.counters:
+            raise ValueError(f'{self._path} has {self.counters} counters a page, not {counters}')
+        for kind, said, _end in records[last + 1:]:
+            self._play(kind, said)
+        os.ftruncate(self._file, records[-1][2])
+        os.lseek(self._file, 0, os.SEEK_END)
+
+    def _restore(self, said: bytes) -> None:
+        """Memory, state and the open ask of a snapshot."""
+        words = struct.unpack_from('<I', said)[0]
+        super().__init__(words // 2)
+        ctypes.memmove(self._memory, said[4:4 + 4 * words], 4 * words)
+        ctypes.memmove(self._state, said[4 + 4 * words:4 + 4 * words + 8 * STATE_WORDS], 8 * STATE_WORDS)
+        kept = said[4 + 4 * words + 8 * STATE_WORDS:]
+        if kept:
+            self._play(b'M', kept)
+
+    def _snapshot(self) -> bytes:
+        """All there is of a board: the memory, the state's words, the open ask."""
+        ask = self._open
+        kept = _ASK.pack(ask.number, *ask.window) if ask else b''
+        return _record(b'S', struct.pack('<I', len(self._memory)) + bytes(self._memory) + bytes(self._state) + kept)
+
+    def _play(self, kind: bytes, said: bytes) -> None:
+        """One record, done again; what was refused is refused again."""
+        if kind == b'I':
+            self.increments(array.array('I', said))
+        elif kind == b'F':
+            self.flip()
+        elif kind == b'D':
+            self._open = None
+        else:
+            number, *cells, clear = _ASK.unpack(said)
+            window = Window(*cells, bool(clear))
+            if kind == b'M':
+                self._open = Ask(self, number, window)
+            else:
+                with contextlib.suppress(Refusal):
+                    self.ask_numbered(number, window)
+
+    def _write_down(self, kind: bytes, said: bytes = b'', flush: bool = True) -> None:
+        """Writes a call down, before it is made."""
+        if self._playing:
+            return
+        if self._file is None:
+            raise ValueError(f'the board of {self._path} is closed')
+        if self._since > _SNAPSHOT_AFTER:
+            self._put(self._snapshot(), flush)
+            self._since = 0
+        self._put(_record(kind, said), flush)
+
+    def _put(self, record: bytes, flush: bool) -> None:
+        """Appends to the file; where it cannot be written the file is as it was, and the call is not made."""
+        end = os.lseek(self._file, 0, os.SEEK_END)
+        try:
+            done = 0
+            while done < len(record):
+                done += os.write(self._file, record[done:])
+            if flush:
+                os.fsync(self._file)
+        except OSError:
+            os.ftruncate(self._file, end)
+            raise
+        self._since += len(record)
+
+    def close(self) -> None:
+        """Flushes the file and lets it go; the board can be gone on with later."""
+        if self._file is not None:
+            with contextlib.suppress(OSError):
+                os.fsync(self._file)
+            os.close(self._file)
+            self._file = None
+
+    def __enter__(self) -> BoardFile:
+        return self
+
+    def __exit__(self, kind: Any, why: Any, trace: Any) -> None:
+        self.close()
