@@ -18,21 +18,21 @@ def feed(board, counter):
     return True
 
 
-def over_the_link(board, number, window, tried):
-    """One ask over the link. The board answers, but the first answer to every odd ask is lost."""
-    answer = board.ask_numbered(number, window)
-    return answer if number % 2 == 0 or tried > 0 else None
+def over_the_link(ask, tried):
+    """One try over the link. The board answers, but the first answer to every odd ask is lost."""
+    answer = ask.answer()
+    return answer if ask.number % 2 == 0 or tried > 0 else None
 
 
-def ask(board, window):
-    """Asks until an answer comes, always under the same number, and gives the sum to file."""
-    number = board.next_number
-    tried = 0
-    while (answer := over_the_link(board, number, window, tried)) is None:
-        print(f'ask {number}: timed out')
-        tried += 1
-    print(f'ask {number}: {answer.sum}, {"again" if answer.again else "new"}')
-    return answer.sum
+def asked(board, window):
+    """Makes an ask, tries it until an answer comes, and gives the sum to file."""
+    with board.ask(window) as ask:
+        tried = 0
+        while (answer := over_the_link(ask, tried)) is None:
+            print(f'ask {ask.number}: timed out')
+            tried += 1
+        print(f'ask {ask.number}: {answer.sum}, {"again" if answer.again else "new"}')
+        return answer.sum
 
 
 def main():
@@ -42,7 +42,7 @@ def main():
     counted += feed(board, COUNTERS)
     print(f'{PARTICLES + 1} particles fed, {counted} counted')
     board.flip()
-    sheet = [ask(board, plavotesk.Window(16 * i, 15, 0, 0, True)) for i in range(WINDOWS)]
+    sheet = [asked(board, plavotesk.Window(16 * i, 15, 0, 0, True)) for i in range(WINDOWS)]
     print('count sheet')
     for i, filed in enumerate(sheet):
         print(f'  counters {16 * i} to {16 * i + 15}: {filed}')

@@ -1,6 +1,7 @@
 //! A bench in Rust: a board is opened, fed, flipped and asked over a link that times out, and the count sheet is right.
 
-use plavotesk::{Answer, Histogram, Sum, Window};
+use plavotesk::{Answer, Ask, Histogram, Sum, Window};
+use std::error::Error;
 
 const COUNTERS: u32 = 64;
 const PARTICLES: u32 = 300;
@@ -11,34 +12,35 @@ fn feed(board: &mut Histogram, counter: u32) -> bool {
     match board.increment(counter) {
         Ok(()) => true,
         Err(refusal) => {
-            println!("a particle at counter {counter}: refused {}", refusal.number);
+            println!("a particle at counter {counter}: refused {}", refusal.number());
             false
         }
     }
 }
 
-/// One ask over the link. The board answers, but the first answer to every odd ask is lost.
-fn over_the_link(board: &mut Histogram, number: u16, window: Window, tried: u32) -> Option<Answer<Sum>> {
-    let answer = board.ask_numbered(number, window);
-    if number % 2 == 0 || tried > 0 { Some(answer) } else { None }
+/// One try over the link. The board answers, but the first answer to every odd ask is lost.
+fn over_the_link(board: &mut Histogram, ask: &Ask, tried: u32) -> Option<Answer<Sum>> {
+    let answer = board.answer(ask);
+    if ask.number() % 2 == 0 || tried > 0 { Some(answer) } else { None }
 }
 
-/// Asks until an answer comes, always under the same number, and gives the sum to file.
-fn ask(board: &mut Histogram, window: Window) -> Answer<u64> {
-    let number = board.next_number();
+/// Makes an ask, tries it until an answer comes, and gives the sum to file.
+fn asked(board: &mut Histogram, window: Window) -> Result<u64, Box<dyn Error>> {
+    let ask = board.ask(window)?;
     let mut tried = 0;
-    loop {
-        if let Some(answer) = over_the_link(board, number, window, tried) {
-            let Sum { sum, again } = answer?;
-            println!("ask {number}: {sum}, {}", if again { "again" } else { "new" });
-            return Ok(sum);
+    let Sum { sum, again } = loop {
+        match over_the_link(board, &ask, tried) {
+            Some(answer) => break answer?,
+            None => println!("ask {}: timed out", ask.number()),
         }
-        println!("ask {number}: timed out");
         tried += 1;
-    }
+    };
+    println!("ask {}: {sum}, {}", ask.number(), if again { "again" } else { "new" });
+    board.file(ask);
+    Ok(sum)
 }
 
-fn main() -> Answer<()> {
+fn main() -> Result<(), Box<dyn Error>> {
     let mut board = Histogram::open(COUNTERS as usize)?;
     println!("board opened: two pages of {COUNTERS} counters");
     let mut counted = 0;
@@ -50,7 +52,7 @@ fn main() -> Answer<()> {
     board.flip()?;
     let mut sheet = Vec::new();
     for i in 0..WINDOWS {
-        sheet.push(ask(&mut board, Window { address: 16 * i, xsize: 15, ysize: 0, ystride: 0, clear: true })?);
+        sheet.push(asked(&mut board, Window { address: 16 * i, xsize: 15, ysize: 0, ystride: 0, clear: true })?);
     }
     println!("count sheet");
     for (i, sum) in sheet.iter().enumerate() {

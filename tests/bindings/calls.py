@@ -9,8 +9,8 @@ def line(name, call, said=str):
     """A line: the call, and what it answered or why not."""
     try:
         print(f'{name}: {said(call())}')
-    except Refusal as refusal:
-        print(f'{name}: {refusal}' + ('' if refusal.carried is None else f', carried {refusal.carried}'))
+    except (Refusal, plavotesk.AskStillOpen) as refusal:
+        print(f'{name}: {refusal}')
 
 
 def pair(values):
@@ -103,18 +103,22 @@ def histogram():
     line('open 0', lambda: plavotesk.Histogram(0))
     line('open 262145', lambda: plavotesk.Histogram(262145))
     board = plavotesk.Histogram(2)
-    line('repeat before asking', board.ask_again, sums)
     for address in (0, 0, 0, 2):
         line(f'increment {address}', lambda: board.increment(address), lambda _: 'counted')
     print(f'memory: {board.memory}')
     board.flip()
     print(f'next number: {board.next_number}')
-    line('ask', lambda: board.ask(cells), sums)
-    line('repeat', board.ask_again, sums)
-    line('ask', lambda: board.ask(cells), sums)
+    ask = board.ask(cells)
+    line(f'ask {ask.number}', ask.answer, sums)
+    line('a new ask while it is open', lambda: board.ask(cells))
+    line(f'ask {ask.number}', ask.answer, sums)
+    ask.file()
+    ask = board.ask(cells)
+    line(f'ask {ask.number}', ask.answer, sums)
+    ask.give_up()
     line('ask 4', lambda: board.ask_numbered(4, cells), sums)
     line('ask 2 of another window', lambda: board.ask_numbered(2, cells._replace(clear=False)), sums)
-    line('ask too far', lambda: board.ask(cells._replace(address=1)), sums)
+    line('ask too far', board.ask(cells._replace(address=1)).answer, sums)
     print(f'next number: {board.next_number}')
     print(f'memory: {board.memory}')
 

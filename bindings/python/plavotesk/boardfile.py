@@ -76,58 +76,64 @@ class BoardFile(Histogram):
     def __init__(self, path: Any, counters: int | None = None) -> None:
         """Goes on with the board of a file, or makes a fresh one of so many counters a page. BoardInUse where another process has it,
         BoardDamaged where it cannot be read, ValueError where its counters are others than said."""
-        self._path = os.fspath(path)
-        self._file: int | None = os.open(self._path, os.O_RDWR | os.O_CREAT | os.O_CLOEXEC, 0o644)
+        self._path = os.path.abspath(os.fspath(path))
+        self._file: int | None = None
+        self._since = 0
+        self._playing = True
         try:
-            self._take(counters)
+            if os.path.exists(self._path):
+                self._go_on(counters)
+            else:
+                self._make(counters)
         except BaseException:
             self.close()
             raise
+        self._playing = False
 
-    def _take(self, counters: int | None) -> None:
-        """Locks the file and reads it."""
+    def _hold(self) -> None:
+        """Locks the file, for as long as it is held."""
         try:
             fcntl.flock(self._file, fcntl.LOCK_EX | fcntl.LOCK_NB)
         except BlockingIOError:
             raise BoardInUse(f'another process has {self._path}') from None
-        with open(self._path, 'rb') as file:
-            text = file.read()
-        self._since = 0
-        self._playing = True
-        if len(text) < len(_MARK) and _MARK.startswith(text):
-            self._make(counters)
-        elif not text.startswith(_MARK):
-            raise BoardDamaged(f'{self._path} is not the file of a board')
-        else:
-            self._go_on(text, counters)
-        self._playing = False
 
     def _make(self, counters: int | None) -> None:
-        """A fresh board and its file."""
+        """A fresh board. Its file comes into its place whole: a bench that dies before leaves none (but one that ends in .new)."""
         if counters is None:
             raise ValueError(f'{self._path} is new: say how many counters a page has')
         super().__init__(counters)
-        os.ftruncate(self._file, 0)
+        new = f'{self._path}.{os.getpid()}.new'
+        self._file = os.open(new, os.O_RDWR | os.O_CREAT | os.O_TRUNC | os.O_CLOEXEC, 0o644)
+        self._hold()
         self._put(_MARK + self._snapshot(), flush=True)
-        folder = os.open(os.path.dirname(os.path.abspath(self._path)), os.O_RDONLY)
+        try:
+            os.link(new, self._path)
+        except FileExistsError:
+            raise BoardInUse(f'another process made {self._path}') from None
+        finally:
+            os.unlink(new)
+        folder = os.open(os.path.dirname(self._path), os.O_RDONLY)
         os.fsync(folder)
         os.close(folder)
 
-    def _go_on(self, text: bytes, counters: int | None) -> None:
+    def _go_on(self, counters: int | None) -> None:
         """The board as the file says: the last whole snapshot, and what was done since."""
+        self._file = os.open(self._path, os.O_RDWR | os.O_CLOEXEC)
+        self._hold()
+        with open(self._path, 'rb') as file:
+            text = file.read()
+        if not text.startswith(_MARK):
+            raise BoardDamaged(f'{self._path} is not the file of a board')
         records = list(_records(text, self._path))
         last = max((i for i, record in enumerate(records) if record[0] == b'S'), default=None)
         if last is None:
-            if len(text) > len(_MARK) + 64:
-                raise BoardDamaged(f'{self._path} has no whole snapshot')
-            return self._make(counters)
+            raise BoardDamaged(f'{self._path} has no whole snapshot')
         self._restore(records[last][1])
         if counters is not None and whole('counters', counters) != self.counters:
             raise ValueError(f'{self._path} has {self.counters} counters a page, not {counters}')
         for kind, said, _end in records[last + 1:]:
             self._play(kind, said)
         os.ftruncate(self._file, records[-1][2])
-        os.lseek(self._file, 0, os.SEEK_END)
 
     def _restore(self, said: bytes) -> None:
         """Memory, state and the open ask of a snapshot."""

@@ -5,62 +5,13 @@
 
 pub mod raw;
 
-use std::fmt;
+mod board;
+mod refusal;
 
-/// Why a call was refused: document 01's number, and the one value that a refusal may carry (the bytes skipped, with 20).
-#[derive(Clone, Copy, Debug, PartialEq, Eq)]
-pub struct Refusal {
-    pub number: u8,
-    pub carried: Option<u64>,
-}
+pub use board::{Ask, Fed, Histogram, NotABoard, StillOpen, Sum, Window};
+pub use refusal::{Answer, Refusal};
 
-impl Refusal {
-    /// Document 01's words for the number.
-    pub fn words(&self) -> &'static str {
-        match self.number {
-            1 => "capture over 65,536 bytes",
-            2 => "packet data over 8,187 bytes",
-            3 => "buffer too short to write into",
-            4 => "message mark wrong",
-            5 => "message cut short",
-            6 => "message checksum wrong",
-            7 => "message address, tag or stray bits",
-            8 => "number or drop outside the rule",
-            9 => "bits ran out",
-            10 => "redundant zero",
-            11 => "run of ones too long",
-            12 => "count too large for the format",
-            13 => "memory length odd, outside 2 to 524,288, or not the state's 2N",
-            14 => "address, or a window's last cell, not under N",
-            15 => "counter full",
-            16 => "a visited word above 67,108,863",
-            17 => "ask number neither last nor next",
-            18 => "last number, other window",
-            19 => "second or level out of range",
-            20 => "no packet",
-            _ => "no refusal of document 01",
-        }
-    }
-}
-
-impl fmt::Display for Refusal {
-    fn fmt(&self, f: &mut fmt::Formatter) -> fmt::Result {
-        write!(f, "refused {}: {}", self.number, self.words())
-    }
-}
-
-impl std::error::Error for Refusal {}
-
-/// What a call answers: its values, or why not.
-pub type Answer<T> = Result<T, Refusal>;
-
-/// The values where the number is 0, else the refusal.
-fn answer<T>(number: u8, values: T) -> Answer<T> {
-    match number {
-        0 => Ok(values),
-        _ => Err(Refusal { number, carried: None }),
-    }
-}
+use refusal::answer;
 
 /// The checksum of bytes.
 pub fn checksum(bytes: &[u8]) -> u16 {
@@ -74,13 +25,15 @@ pub struct Found {
     pub skipped: u64,
 }
 
-/// The first place where a packet stands. Refusal 20 carries the bytes skipped.
+/// The first place where a packet stands (mark, length and checksum agree). Refusals 1; 20, which carries the bytes skipped.
+#[must_use = "a refusal is an answer too"]
 pub fn packet_find(capture: &[u8]) -> Answer<Found> {
     let (mut place, mut skipped) = (0, 0);
-    match unsafe { raw::plv_packet_find(capture.as_ptr(), capture.len(), &mut place, &mut skipped) } {
-        0 => Ok(Found { place: place as usize, skipped }),
-        20 => Err(Refusal { number: 20, carried: Some(skipped) }),
-        number => Err(Refusal { number, carried: None }),
+    // SAFETY: the slice is lent as it is; the places are ours.
+    let number = unsafe { raw::plv_packet_find(capture.as_ptr(), capture.len(), &mut place, &mut skipped) };
+    match Refusal::of(number, skipped) {
+        None => Ok(Found { place: place as usize, skipped }),
+        Some(refusal) => Err(refusal),
     }
 }
 
@@ -246,114 +199,4 @@ pub fn second_ending(second: u16) -> Answer<u8> {
     let mut level = 0;
     let number = unsafe { raw::plv_second_ending(second, &mut level) };
     answer(number, level)
-}
-
-/// A window of counters: cells in rows, and whether an ask of it clears them.
-#[derive(Clone, Copy, Debug, PartialEq, Eq)]
-pub struct Window {
-    pub address: u32,
-    pub xsize: u8,
-    pub ysize: u8,
-    pub ystride: u16,
-    pub clear: bool,
-}
-
-/// What an ask answers: the sum, and whether it is the kept one of an ask that was answered before.
-#[derive(Clone, Copy, Debug, PartialEq, Eq)]
-pub struct Sum {
-    pub sum: u64,
-    pub again: bool,
-}
-
-/// Histogram memory with its state: counters in two pages, and asks that it numbers itself.
-pub struct Histogram {
-    memory: Vec<u32>,
-    state: [u64; raw::STATE_WORDS],
-    asked: Option<(u16, Window)>,
-}
-
-impl Histogram {
-    /// A fresh memory of two pages of so many counters; the first is active.
-    pub fn open(counters: usize) -> Answer<Histogram> {
-        let words = match counters {
-            1..=262_144 => 2 * counters,
-            _ => return Err(Refusal { number: 13, carried: None }),
-        };
-        let (mut memory, mut state) = (vec![0; words], [0; raw::STATE_WORDS]);
-        let number = unsafe {
-            raw::plv_histogram_open(memory.as_mut_ptr(), memory.len(), state.as_mut_ptr(), state.len())
-        };
-        answer(number, Histogram { memory, state, asked: None })
-    }
-
-    /// Adds 1 to a counter of the active page.
-    pub fn increment(&mut self, address: u32) -> Answer<()> {
-        let (memory, state) = (&mut self.memory, &self.state);
-        let number = unsafe {
-            raw::plv_histogram_increment(memory.as_mut_ptr(), memory.len(), state.as_ptr(), state.len(), address)
-        };
-        answer(number, ())
-    }
-
-    /// Exchanges the active page and the idle one.
-    pub fn flip(&mut self) -> Answer<()> {
-        let (memory, state) = (&self.memory, &mut self.state);
-        let number = unsafe {
-            raw::plv_histogram_flip(memory.as_ptr(), memory.len(), state.as_mut_ptr(), state.len())
-        };
-        answer(number, ())
-    }
-
-    /// The number that the next new ask bears.
-    pub fn next_number(&self) -> u16 {
-        match self.asked {
-            Some((number, _)) => number.wrapping_add(1),
-            None => 1,
-        }
-    }
-
-    /// A new ask: sums a window of the idle page, under the next number.
-    pub fn ask(&mut self, window: Window) -> Answer<Sum> {
-        self.ask_numbered(self.next_number(), window)
-    }
-
-    /// The last accepted ask once more, as after a link that timed out: the same sum, and nothing changes. 17 where nothing was
-    /// asked yet.
-    pub fn ask_again(&mut self) -> Answer<Sum> {
-        match self.asked {
-            Some((number, window)) => self.ask_numbered(number, window),
-            None => Err(Refusal { number: 17, carried: None }),
-        }
-    }
-
-    /// An ask under a number of the caller's: 17 or 18 where it is not its turn.
-    pub fn ask_numbered(&mut self, number: u16, window: Window) -> Answer<Sum> {
-        let (mut sum, mut again) = (0, 0);
-        let (memory, state) = (&mut self.memory, &mut self.state);
-        let refused = unsafe {
-            raw::plv_histogram_ask(
-                memory.as_mut_ptr(),
-                memory.len(),
-                state.as_mut_ptr(),
-                state.len(),
-                number,
-                window.address,
-                window.xsize,
-                window.ysize,
-                window.ystride,
-                window.clear as u8,
-                &mut sum,
-                &mut again,
-            )
-        };
-        if refused == 0 {
-            self.asked = Some((number, window));
-        }
-        answer(refused, Sum { sum, again: again == 1 })
-    }
-
-    /// The words of both pages, to look at.
-    pub fn memory(&self) -> &[u32] {
-        &self.memory
-    }
 }

@@ -1,10 +1,14 @@
 //! The exported calls as they are: `include/plavotesk.h` in Rust's types.
 
+/// The version of the C interface that this crate speaks (PLV_VERSION of the header).
+pub const VERSION: u32 = 1;
+
 /// The words of a histogram's state.
 pub const STATE_WORDS: usize = 10;
 
 #[link(name = "plavotesk", kind = "static")]
 extern "C" {
+    pub fn plv_version() -> u32;
     pub fn plv_checksum(bytes: *const u8, bytes_length: usize) -> u16;
     pub fn plv_packet_find(capture: *const u8, capture_length: usize, place: &mut u64, skipped: &mut u64) -> u8;
     pub fn plv_packet_header(capture: *const u8, capture_length: usize, place: u64, apid: &mut u16, length: &mut u16) -> u8;
@@ -66,6 +70,17 @@ extern "C" {
         state_length: usize,
         address: u32,
     ) -> u8;
+    pub fn plv_histogram_increments(
+        memory: *mut u32,
+        memory_length: usize,
+        state: *const u64,
+        state_length: usize,
+        addresses: *const u32,
+        addresses_length: usize,
+        count: &mut u64,
+        ended: &mut u8,
+    ) -> u8;
+    pub fn plv_histogram_next(state: *const u64, state_length: usize, number: &mut u16) -> u8;
     pub fn plv_histogram_flip(memory: *const u32, memory_length: usize, state: *mut u64, state_length: usize) -> u8;
     pub fn plv_histogram_ask(
         memory: *mut u32,

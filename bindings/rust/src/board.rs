@@ -1,0 +1,296 @@
+//! Histogram memory with its state: a board's counters in two pages, and asks that are things.
+
+use crate::raw;
+use crate::refusal::{answer, Answer, Refusal};
+use std::fmt;
+
+/// The counters that an ask sums: rows of xsize + 1 cells, ysize + 1 of them; a row begins ystride after the last cell of the row
+/// before. `clear` sets each to 0 as it is read.
+#[derive(Clone, Copy, Debug, PartialEq, Eq, Hash)]
+pub struct Window {
+    pub address: u32,
+    pub xsize: u8,
+    pub ysize: u8,
+    pub ystride: u16,
+    pub clear: bool,
+}
+
+/// What an ask answers: the sum, and whether it was answered before.
+#[derive(Clone, Copy, Debug, PartialEq, Eq)]
+pub struct Sum {
+    pub sum: u64,
+    pub again: bool,
+}
+
+/// What feeding many answers: how many were counted, and why it ended before the last, if it did.
+#[derive(Clone, Copy, Debug, PartialEq, Eq)]
+pub struct Fed {
+    pub count: u64,
+    pub ended: Option<Refusal>,
+}
+
+/// An ask: its number and its window. It is tried as often as the link needs ([`Histogram::answer`]), each try the same sum, until it is
+/// filed or given up; till then its board makes no other. It cannot be cloned.
+#[must_use = "an ask is tried, then filed or given up; till then the board makes no other"]
+#[derive(Debug, PartialEq, Eq)]
+pub struct Ask {
+    number: u16,
+    window: Window,
+}
+
+impl Ask {
+    /// Its number.
+    pub fn number(&self) -> u16 {
+        self.number
+    }
+
+    /// Its window.
+    pub fn window(&self) -> Window {
+        self.window
+    }
+}
+
+/// A new ask was wanted while another one is open: its answer may have been lost.
+#[derive(Clone, Copy, Debug, PartialEq, Eq)]
+pub struct StillOpen {
+    pub number: u16,
+    pub window: Window,
+}
+
+impl fmt::Display for StillOpen {
+    fn fmt(&self, f: &mut fmt::Formatter) -> fmt::Result {
+        write!(f, "ask {} is still open, and its answer may have been lost: answer it again, file it, or give it up", self.number)
+    }
+}
+
+impl std::error::Error for StillOpen {}
+
+/// Bytes that are no board's, or were damaged.
+#[derive(Clone, Copy, Debug, PartialEq, Eq)]
+pub struct NotABoard;
+
+impl fmt::Display for NotABoard {
+    fn fmt(&self, f: &mut fmt::Formatter) -> fmt::Result {
+        write!(f, "these bytes are no board's, or were damaged")
+    }
+}
+
+impl std::error::Error for NotABoard {}
+
+/// A board's counters in two pages, and numbered asks. It cannot be cloned: two of them would file one count twice. One thread at a time
+/// has it, as Rust's `&mut` says.
+///
+/// ```
+/// use plavotesk::{Histogram, Window};
+/// let mut board = Histogram::open(64).unwrap();
+/// for address in [3, 3, 5] {
+///     board.increment(address).unwrap();
+/// }
+/// board.flip().unwrap();
+/// let ask = board.ask(Window { address: 0, xsize: 15, ysize: 0, ystride: 0, clear: true }).unwrap();
+/// let lost = board.answer(&ask).unwrap(); // the link timed out, and nobody saw it
+/// let filed = board.answer(&ask).unwrap(); // the same sum
+/// assert_eq!((lost.sum, filed.sum, filed.again), (3, 3, true));
+/// board.file(ask);
+/// ```
+#[derive(Debug)]
+pub struct Histogram {
+    memory: Vec<u32>,
+    state: [u64; raw::STATE_WORDS],
+    open: Option<(u16, Window)>,
+}
+
+const MARK: &[u8; 8] = b"PLVBOARD";
+
+impl Histogram {
+    /// A fresh memory of two pages of so many counters each (1 to 262,144); the first is active. Refusal 13.
+    pub fn open(counters: usize) -> Answer<Histogram> {
+        let words = match counters {
+            1..=262_144 => 2 * counters,
+            _ => return Err(Refusal::WrongMemory),
+        };
+        let (mut memory, mut state) = (vec![0; words], [0; raw::STATE_WORDS]);
+        // SAFETY: both slices are ours, and lent as they are.
+        let number = unsafe { raw::plv_histogram_open(memory.as_mut_ptr(), memory.len(), state.as_mut_ptr(), state.len()) };
+        answer(number, Histogram { memory, state, open: None })
+    }
+
+    /// A particle: adds 1 to a counter of the active page. Refusals 14, 16, 15.
+    pub fn increment(&mut self, address: u32) -> Answer<()> {
+        let (memory, state) = (&mut self.memory, &self.state);
+        // SAFETY: both slices are ours, and lent as they are.
+        let number = unsafe { raw::plv_histogram_increment(memory.as_mut_ptr(), memory.len(), state.as_ptr(), state.len(), address) };
+        answer(number, ())
+    }
+
+    /// Many particles, one after the other, up to the first that would be refused.
+    pub fn increments(&mut self, addresses: &[u32]) -> Answer<Fed> {
+        let (mut count, mut ended) = (0, 0);
+        let (memory, state) = (&mut self.memory, &self.state);
+        // SAFETY: the slices are lent as they are, and `addresses` is none of ours.
+        let number = unsafe {
+            raw::plv_histogram_increments(
+                memory.as_mut_ptr(),
+                memory.len(),
+                state.as_ptr(),
+                state.len(),
+                addresses.as_ptr(),
+                addresses.len(),
+                &mut count,
+                &mut ended,
+            )
+        };
+        answer(number, Fed { count, ended: Refusal::of(ended, 0) })
+    }
+
+    /// Exchanges the active page, where particles count, and the idle one, which is asked.
+    pub fn flip(&mut self) -> Answer<()> {
+        let (memory, state) = (&self.memory, &mut self.state);
+        // SAFETY: both slices are ours, and lent as they are.
+        let number = unsafe { raw::plv_histogram_flip(memory.as_ptr(), memory.len(), state.as_mut_ptr(), state.len()) };
+        answer(number, ())
+    }
+
+    /// The number that the next new ask bears, read from the state.
+    pub fn next(&self) -> Answer<u16> {
+        let mut number = 0;
+        // SAFETY: the state is ours, and lent as it is.
+        let refused = unsafe { raw::plv_histogram_next(self.state.as_ptr(), self.state.len(), &mut number) };
+        answer(refused, number)
+    }
+
+    /// A new ask of a window of the idle page, under the next number. Nothing is summed before [`Histogram::answer`].
+    pub fn ask(&mut self, window: Window) -> Result<Ask, StillOpen> {
+        if let Some((number, window)) = self.open {
+            return Err(StillOpen { number, window });
+        }
+        let number = self.next().expect("the state is whole");
+        self.open = Some((number, window));
+        Ok(Ask { number, window })
+    }
+
+    /// The ask that is neither filed nor given up, where it was let go or the board was read from bytes.
+    pub fn open_ask(&self) -> Option<Ask> {
+        self.open.map(|(number, window)| Ask { number, window })
+    }
+
+    /// One try of an ask: the sum. Every further try answers the same sum, as again, and changes nothing. Refusals 14, 16, which cleared
+    /// nothing and end the ask.
+    pub fn answer(&mut self, ask: &Ask) -> Answer<Sum> {
+        let answered = self.ask_numbered(ask.number, ask.window);
+        if answered.is_err() {
+            self.close(ask);
+        }
+        answered
+    }
+
+    /// The ask's sum is written down: the board may make the next one.
+    pub fn file(&mut self, ask: Ask) {
+        self.close(&ask);
+    }
+
+    /// The caller lets the ask go, answered or not: what it cleared is not filed by it.
+    pub fn give_up(&mut self, ask: Ask) {
+        self.close(&ask);
+    }
+
+    /// An ask is done.
+    fn close(&mut self, ask: &Ask) {
+        if self.open == Some((ask.number, ask.window)) {
+            self.open = None;
+        }
+    }
+
+    /// An ask under a number of the caller's. The last accepted number with its window answers the same sum again and changes nothing.
+    /// Refusals 18 or 17, 14, 16.
+    pub fn ask_numbered(&mut self, number: u16, window: Window) -> Answer<Sum> {
+        let (mut sum, mut again) = (0, 0);
+        let (memory, state) = (&mut self.memory, &mut self.state);
+        // SAFETY: both slices are ours, and lent as they are; the places are ours.
+        let refused = unsafe {
+            raw::plv_histogram_ask(
+                memory.as_mut_ptr(),
+                memory.len(),
+                state.as_mut_ptr(),
+                state.len(),
+                number,
+                window.address,
+                window.xsize,
+                window.ysize,
+                window.ystride,
+                window.clear as u8,
+                &mut sum,
+                &mut again,
+            )
+        };
+        answer(refused, Sum { sum, again: again == 1 })
+    }
+
+    /// The words of both pages, to look at.
+    pub fn memory(&self) -> &[u32] {
+        &self.memory
+    }
+
+    /// All there is of a board: memory, state and the open ask, under a mark and a checksum. The rule for a bench that must be able to go
+    /// on after it died: write down the bytes first, answer afterwards. Bytes from before an ask that was answered since bring the dear
+    /// mistake back; keep the last ones only.
+    pub fn to_bytes(&self) -> Vec<u8> {
+        let mut bytes = MARK.to_vec();
+        bytes.extend((self.memory.len() as u32).to_le_bytes());
+        bytes.extend(self.memory.iter().flat_map(|word| word.to_le_bytes()));
+        bytes.extend(self.state.iter().flat_map(|word| word.to_le_bytes()));
+        let (open, number, window) = match self.open {
+            Some((number, window)) => (1, number, window),
+            None => (0, 0, Window { address: 0, xsize: 0, ysize: 0, ystride: 0, clear: false }),
+        };
+        bytes.push(open);
+        bytes.extend(number.to_le_bytes());
+        bytes.extend(window.address.to_le_bytes());
+        bytes.extend([window.xsize, window.ysize]);
+        bytes.extend(window.ystride.to_le_bytes());
+        bytes.push(window.clear as u8);
+        bytes.extend(crate::checksum(&bytes).to_le_bytes());
+        bytes
+    }
+
+    /// The board that wrote these bytes. The board that wrote them must be gone: two of them would file one count twice.
+    pub fn from_bytes(bytes: &[u8]) -> Result<Histogram, NotABoard> {
+        let (body, sum) = bytes.split_last_chunk::<2>().ok_or(NotABoard)?;
+        if crate::checksum(body) != u16::from_le_bytes(*sum) {
+            return Err(NotABoard);
+        }
+        let mut rest = Rest(body);
+        if rest.take::<8>()? != *MARK {
+            return Err(NotABoard);
+        }
+        let words = u32::from_le_bytes(rest.take()?) as usize;
+        let mut board = Histogram::open(words / 2).map_err(|_| NotABoard)?;
+        for word in &mut board.memory {
+            *word = u32::from_le_bytes(rest.take()?);
+        }
+        for word in &mut board.state {
+            *word = u64::from_le_bytes(rest.take()?);
+        }
+        let [open] = rest.take()?;
+        let number = u16::from_le_bytes(rest.take()?);
+        let address = u32::from_le_bytes(rest.take()?);
+        let [xsize, ysize] = rest.take()?;
+        let ystride = u16::from_le_bytes(rest.take()?);
+        let [clear] = rest.take()?;
+        let window = Window { address, xsize, ysize, ystride, clear: clear == 1 };
+        board.open = (open == 1).then_some((number, window));
+        if rest.0.is_empty() { Ok(board) } else { Err(NotABoard) }
+    }
+}
+
+/// What is left of a board's bytes.
+struct Rest<'a>(&'a [u8]);
+
+impl Rest<'_> {
+    /// The next bytes.
+    fn take<const N: usize>(&mut self) -> Result<[u8; N], NotABoard> {
+        let (next, rest) = self.0.split_first_chunk::<N>().ok_or(NotABoard)?;
+        self.0 = rest;
+        Ok(*next)
+    }
+}

@@ -1,0 +1,176 @@
+"""What a user of the Python package does without reading: threads, numbers of all sizes, buffers of all kinds, iterators, copies."""
+import array
+import copy
+import mmap
+import pickle
+import sys
+import tempfile
+import threading
+
+import plavotesk
+from plavotesk import Message, Refusal, Window
+
+ALL = Window(0, 7, 0, 0, True)
+
+
+def refused(number, call):
+    """The call is refused by this number."""
+    try:
+        call()
+    except Refusal as refusal:
+        assert refusal.number == number, (number, refusal)
+        assert type(refusal) is plavotesk.REFUSALS[number]
+        return refusal
+    raise AssertionError(f'not refused by {number}')
+
+
+def raises(kind, words, call):
+    """The call raises this kind, and its words name what is wrong."""
+    try:
+        call()
+    except kind as why:
+        assert words in str(why), why
+        return
+    raise AssertionError(f'no {kind.__name__}')
+
+
+def threads():
+    """Increments from four threads, and asks between them: none is lost."""
+    sys.setswitchinterval(1e-6)
+    board = plavotesk.Histogram(8)
+    each = 1500
+
+    def feed(first):
+        for i in range(each):
+            board.increment((first + i) % 8)
+
+    feeding = [threading.Thread(target=feed, args=(first,)) for first in range(4)]
+    for thread in feeding:
+        thread.start()
+    sums = 0
+    while any(thread.is_alive() for thread in feeding):
+        board.flip()
+        with board.ask(ALL) as ask:
+            sums += ask.answer().sum
+    for thread in feeding:
+        thread.join()
+    assert sums + sum(board.memory) == 4 * each, (sums, sum(board.memory))
+
+
+def numbers():
+    """All numbers are taken: what document 01 has a number for is refused by it, however large."""
+    buffer = bytearray(16)
+    for level in (8, 300, 2 ** 80, -1):
+        refused(19, lambda: plavotesk.level_seconds(level))
+    for second in (3600, 65536, 2 ** 80, -1):
+        refused(19, lambda: plavotesk.second_beginning(second))
+    for value in (2 ** 25, 2 ** 31, 2 ** 40, -2 ** 40):
+        refused(8, lambda: plavotesk.code_pack(buffer, 0, value, 0))
+    for drop in (1, 256, 2 ** 80, -1):
+        refused(8, lambda: plavotesk.code_unpack(buffer, 0, drop))
+    for at in (128, 2 ** 63, 2 ** 64, 2 ** 80):
+        refused(9, lambda: plavotesk.code_unpack(buffer, at, 0))
+        refused(3, lambda: plavotesk.code_pack(buffer, at, 5, 0))
+    for message in (Message(0, 256, 0), Message(0, 3, 2 ** 64), Message(0, 3, -1), Message(2 ** 14, 0, 0), Message(-1, 0, 0)):
+        refused(7, lambda: plavotesk.message_write(buffer, message))
+    for count in (2 ** 34, 2 ** 70):
+        for call in (plavotesk.float16_code, plavotesk.float8_code, plavotesk.int24_code):
+            refused(12, lambda: call(count))
+    refused(12, lambda: plavotesk.int24_count(2 ** 70))
+    for place in (16, 2 ** 80, -1):
+        refused(20, lambda: plavotesk.packet_header(buffer, place))
+    assert buffer == bytes(16)
+    board = plavotesk.Histogram(8)
+    for address in (8, 2 ** 32, 2 ** 80, -1):
+        refused(14, lambda: board.increment(address))
+    assert board.increments([1, 2, 2 ** 80, 3]) == (2, 14)
+    assert board.increments([]) == (0, 0)
+    for number in (2, 65536, -1):
+        refused(17, lambda: board.ask_numbered(number, ALL))
+    for window in (ALL._replace(address=2 ** 80), ALL._replace(xsize=256), ALL._replace(ysize=-1), ALL._replace(ystride=2 ** 16)):
+        refused(14, board.ask(window).answer)
+        assert board.open_ask is None
+    for counters in (0, -1, 262145, 2 ** 80):
+        refused(13, lambda: plavotesk.Histogram(counters))
+    for call in (lambda: plavotesk.packet_write(buffer, 2 ** 16, b''), lambda: plavotesk.float16_count(2 ** 16), lambda: plavotesk.float8_code(-1),
+                 lambda: plavotesk.code_unpack(buffer, -1, 0)):
+        raises(OverflowError, ' ', call)
+    for wrong in (1.0, '1', None, b'1'):
+        raises(TypeError, 'level must be', lambda: plavotesk.level_seconds(wrong))
+        raises(TypeError, 'address must be', lambda: board.increment(wrong))
+        raises(TypeError, 'xsize must be', lambda: board.ask(ALL._replace(xsize=wrong)))
+    raises(TypeError, 'capture must be', lambda: plavotesk.packet_find('text'))
+    raises(TypeError, 'buffer must be', lambda: plavotesk.packet_write(b'no bytearray', 1, b''))
+
+
+def buffers():
+    """Bytes, bytearrays, views, arrays and mapped files are lent as they are."""
+    text = b'123456789'
+    with tempfile.TemporaryFile() as file:
+        file.write(text)
+        file.flush()
+        mapped = mmap.mmap(file.fileno(), 0, access=mmap.ACCESS_READ)
+        for given in (text, bytearray(text), memoryview(text), memoryview(b'x' + text)[1:], array.array('B', text), mapped):
+            assert plavotesk.checksum(given) == 0x29b1
+        mapped.close()
+    assert plavotesk.checksum(array.array('H', [1, 2, 3])) == plavotesk.checksum(array.array('H', [1, 2, 3]).tobytes())
+    assert plavotesk.checksum(b'') == plavotesk.checksum(bytearray()) == 0xffff
+    grown = bytearray(text)
+    plavotesk.checksum(grown)
+    grown += b'x'
+    raises(TypeError, 'lie together', lambda: plavotesk.checksum(memoryview(text)[::2]))
+
+
+def iterators():
+    """Packets, codes, readings and rates, one after the other."""
+    capture = bytearray(200)
+    capture[0:4] = b'\xbe\xba\xca\xfe'
+    written = plavotesk.packet_write(memoryview(capture)[50:], 0x301, b'first')
+    plavotesk.packet_write(memoryview(capture)[50 + written:], 0x302, b'')
+    plavotesk.packet_write(memoryview(capture)[100:], 0x303, b'third')
+    assert [(p.place, p.apid, bytes(p.data), p.skipped) for p in plavotesk.packets(capture)] == [
+        (50, 0x301, b'first', 50), (65, 0x302, b'', 0), (100, 0x303, b'third', 25)]
+    assert plavotesk.packet_find(capture, 51) == (65, 14)
+    assert refused(20, lambda: plavotesk.packet_find(capture, 101)).carried == 99
+    assert str(refused(20, lambda: plavotesk.packet_find(capture, 300))) == 'refused 20: no packet (0 bytes skipped)'
+    refused(1, lambda: list(plavotesk.packets(bytes(65537))))
+    buffer, at, said = bytearray(64), 3, [0, 1, 15, 16, 100, 5000]
+    for value in said:
+        at = plavotesk.code_pack(buffer, at, value, 0)
+    for given in (buffer, bytes(buffer), memoryview(buffer)):
+        assert list(plavotesk.codes(given, 6, 0, 3)) == [0, 1, 15, 16, 99, 4991], list(plavotesk.codes(given, 6, 0, 3))
+        assert [reading.low <= value <= reading.high for value, reading in zip(said, plavotesk.readings(given, 6, 0, 3))] == [True] * 6
+        assert [rate.seconds for rate in plavotesk.rates(given, 6, 0, 1, 3)] == [5.0] * 6
+    refused(9, lambda: list(plavotesk.codes(b'\xff', 1, 0)))
+
+
+def copies():
+    """A board cannot be copied or pickled; a refusal can."""
+    board = plavotesk.Histogram(2)
+    for call in (copy.copy, copy.deepcopy, pickle.dumps):
+        raises(TypeError, 'a board cannot be', lambda: call(board))
+    again = pickle.loads(pickle.dumps(plavotesk.NoPacket(7)))
+    assert (again.number, again.carried, str(again)) == (20, 7, 'refused 20: no packet (7 bytes skipped)')
+
+
+def dear_mistake():
+    """300 counts, a lost answer, the same lines again: nothing is lost in silence."""
+    board = plavotesk.Histogram(8)
+    board.increments([i % 8 for i in range(300)])
+    board.flip()
+
+    def lost():
+        with board.ask(ALL) as ask:
+            ask.answer()
+            raise TimeoutError
+
+    raises(TimeoutError, '', lost)
+    raises(plavotesk.AskStillOpen, 'still open', lost)
+    with board.open_ask as ask:
+        assert ask.answer() == (300, True)
+    assert board.open_ask is None and board.next_number == 2
+
+
+for check in (threads, numbers, buffers, iterators, copies, dear_mistake):
+    check()
+    print(f'{check.__name__}: as they should be')
