@@ -4,8 +4,12 @@
  * nothing. On a refusal nothing is written, but for the bytes skipped with PLV_NO_PACKET. After each call's explanation stand
  * its refusals, in the order in which they are looked for.
  *
- * A slice is a pointer and a length, which counts elements, not bytes; the pointer is never null, not even where the length is
- * 0. Places that a call writes to do not overlap each other or what it reads. */
+ * A slice is a pointer and a length, which counts elements, not bytes. What is lent must be there: every pointer is aligned for
+ * its type and not null, not even where the length is 0 (the proofs speak of memory that exists, and a slice of nothing has a
+ * place too); the places that a call writes to hold a value before the call, and overlap neither each other nor what it reads.
+ *
+ * The library keeps nothing between calls, and calls may come from several threads at once; but what one call is lent no other
+ * call may be lent at the same time: two increments of one memory from two threads lose counts. */
 #ifndef PLAVOTESK_H
 #define PLAVOTESK_H
 
@@ -41,87 +45,147 @@ enum plv_refusal {
     PLV_NO_PACKET = 20           /* no packet */
 };
 
-/* The words of a histogram's state, which the caller lends to each call and keeps between them. */
+/* The version of this interface: a library of another version has other calls, or other state words. */
+#define PLV_VERSION 1
+
+/* A number that must be looked at: a refused call changed nothing. */
+#if defined(__GNUC__)
+#define PLV_ANSWERS __attribute__((warn_unused_result))
+#else
+#define PLV_ANSWERS
+#endif
+
+/* The words of a refusal, as above; "accepted" for 0, and for what is no refusal. */
+static inline const char *plv_refusal_words(uint8_t number) {
+    static const char *const words[] = {
+        "accepted",
+        "capture over 65,536 bytes",
+        "packet data over 8,187 bytes",
+        "buffer too short to write into",
+        "message mark wrong",
+        "message cut short",
+        "message checksum wrong",
+        "message address, tag or stray bits",
+        "number or drop outside the rule",
+        "bits ran out",
+        "redundant zero",
+        "run of ones too long",
+        "count too large for the format",
+        "memory length odd, outside 2 to 524,288, or not the state's 2N; state words too few",
+        "address, or a window's last cell, not under N",
+        "counter full",
+        "a visited word above 67,108,863",
+        "ask number neither last nor next",
+        "last number, other window",
+        "second or level out of range",
+        "no packet",
+    };
+    return words[number < sizeof words / sizeof *words ? number : 0];
+}
+
+/* The version of the library that is linked: PLV_VERSION, where header and library belong together. */
+uint32_t plv_version(void);
+
+/* The words of a histogram's state, which the caller lends to each call and keeps between them:
+ *   0        2N, the words of the memory that was opened
+ *   1        not 0 where the second page is active
+ *   2        not 0 where an ask is kept, the last that was accepted:
+ *   3        its number
+ *   4 to 8   its window: address, xsize, ysize, ystride, and not 0 where it clears
+ *   9        its sum
+ * Memory and state words together are all there is of a board: kept together, a bench goes on from them after it died. Putting
+ * back older words of one of them, or of both, brings the dear mistake back: a state from before ask 1 with the memory from after
+ * it answers ask 1 as new, with 0. */
 #define PLV_STATE_WORDS 10
 
 /* The checksum of bytes. */
 uint16_t plv_checksum(const uint8_t *bytes, size_t bytes_length);
 
 /* The first place where a packet stands, and the bytes skipped before it; 1, or 20 with the bytes skipped. */
-uint8_t plv_packet_find(const uint8_t *capture, size_t capture_length, uint64_t *place, uint64_t *skipped);
+PLV_ANSWERS uint8_t plv_packet_find(const uint8_t *capture, size_t capture_length, uint64_t *place, uint64_t *skipped);
 
 /* The APID and the bytes of data of the packet at a place; 1, 20. */
-uint8_t plv_packet_header(const uint8_t *capture, size_t capture_length, uint64_t place, uint16_t *apid, uint16_t *length);
+PLV_ANSWERS uint8_t plv_packet_header(const uint8_t *capture, size_t capture_length, uint64_t place, uint16_t *apid, uint16_t *length);
 
 /* Where the data of the packet at a place lies in the capture; 0 and 0 where there is none. */
 void plv_packet_payload(const uint8_t *capture, size_t capture_length, uint64_t place, uint64_t *start, uint64_t *length);
 
 /* Writes a packet to the front of a buffer, and answers its bytes; 2, 3. */
-uint8_t plv_packet_write(uint8_t *buffer, size_t buffer_length, uint16_t apid, const uint8_t *payload, size_t payload_length,
-                         uint64_t *written);
+PLV_ANSWERS uint8_t plv_packet_write(uint8_t *buffer, size_t buffer_length, uint16_t apid, const uint8_t *payload, size_t payload_length,
+                                     uint64_t *written);
 
 /* Reads the message at the front of the bytes, and answers the bytes it used; under 4 bytes 5, then 4, 5, 6. */
-uint8_t plv_message_read(const uint8_t *bytes, size_t bytes_length, uint16_t *address, uint8_t *tag, uint64_t *value,
-                         uint64_t *used);
+PLV_ANSWERS uint8_t plv_message_read(const uint8_t *bytes, size_t bytes_length, uint16_t *address, uint8_t *tag, uint64_t *value,
+                                     uint64_t *used);
 
 /* Writes a message to the front of a buffer, and answers its bytes: an address of 14 bits, and a value of 0, 2, 4 or 8 bytes for
  * tag 0, 1, 2, 3; 7, 3. */
-uint8_t plv_message_write(uint8_t *buffer, size_t buffer_length, uint16_t address, uint8_t tag, uint64_t value,
-                          uint64_t *written);
+PLV_ANSWERS uint8_t plv_message_write(uint8_t *buffer, size_t buffer_length, uint16_t address, uint8_t tag, uint64_t value,
+                                      uint64_t *written);
 
 /* Packs a number of at most 33,554,431 either way at a bit position, with drop 0 or 3, and answers the next position. Bits go
  * most significant first; 8, 3. */
-uint8_t plv_code_pack(uint8_t *buffer, size_t buffer_length, uint64_t at, int32_t value, uint8_t drop, uint64_t *next);
+PLV_ANSWERS uint8_t plv_code_pack(uint8_t *buffer, size_t buffer_length, uint64_t at, int32_t value, uint8_t drop, uint64_t *next);
 
-/* Reads the code at a bit position, and answers its number and the next position; 8, 9, 10, 11. */
-uint8_t plv_code_unpack(const uint8_t *bytes, size_t bytes_length, uint64_t at, uint8_t drop, int32_t *value, uint64_t *next);
+/* Reads the code at a bit position, and answers the number that it decodes to and the next position. That number is not the count
+ * that went in: a code stands for a band of counts, which plv_reading answers. Zeros that pad the last byte read as codes of 0:
+ * know how many codes there are; 8, 9, 10, 11. */
+PLV_ANSWERS uint8_t plv_code_unpack(const uint8_t *bytes, size_t bytes_length, uint64_t at, uint8_t drop, int32_t *value, uint64_t *next);
 
 /* Reads the count at a bit position: the edges of its band, and 1 where it is exact (both edges are the count), else 0; 8, 9, 10,
  * 11, and 8 for a negative number. */
-uint8_t plv_reading(const uint8_t *bytes, size_t bytes_length, uint64_t at, uint8_t drop, double *low, double *high,
-                    uint8_t *exact, uint64_t *next);
+PLV_ANSWERS uint8_t plv_reading(const uint8_t *bytes, size_t bytes_length, uint64_t at, uint8_t drop, double *low, double *high,
+                                uint8_t *exact, uint64_t *next);
 
 /* Reads the count at a bit position as a rate over the seconds of a level: both edges, each divided once; as for a reading, then
  * 19. */
-uint8_t plv_rate(const uint8_t *bytes, size_t bytes_length, uint64_t at, uint8_t drop, uint8_t level, double *low,
-                 double *high, double *seconds, uint64_t *next);
+PLV_ANSWERS uint8_t plv_rate(const uint8_t *bytes, size_t bytes_length, uint64_t at, uint8_t drop, uint8_t level, double *low,
+                             double *high, double *seconds, uint64_t *next);
 
 /* A count to its 16-bit float and back; 12. */
-uint8_t plv_float16_code(uint64_t count, uint16_t *code);
+PLV_ANSWERS uint8_t plv_float16_code(uint64_t count, uint16_t *code);
 uint64_t plv_float16_count(uint16_t code);
 
 /* A count to its 8-bit float and back; 12. */
-uint8_t plv_float8_code(uint64_t count, uint8_t *code);
+PLV_ANSWERS uint8_t plv_float8_code(uint64_t count, uint8_t *code);
 uint64_t plv_float8_count(uint8_t code);
 
 /* A count to its 24-bit integer and back; 12. */
-uint8_t plv_int24_code(uint64_t count, uint32_t *code);
-uint8_t plv_int24_count(uint32_t code, uint32_t *count);
+PLV_ANSWERS uint8_t plv_int24_code(uint64_t count, uint32_t *code);
+PLV_ANSWERS uint8_t plv_int24_count(uint32_t code, uint32_t *count);
 
 /* The seconds that a level, 0 to 7, lasts; 19. */
-uint8_t plv_level_seconds(uint8_t level, uint16_t *seconds);
+PLV_ANSWERS uint8_t plv_level_seconds(uint8_t level, uint16_t *seconds);
 
 /* The level that begins, and the level that ends, in a second of the hour, 0 to 3599; 19. */
-uint8_t plv_second_beginning(uint16_t second, uint8_t *level);
-uint8_t plv_second_ending(uint16_t second, uint8_t *level);
+PLV_ANSWERS uint8_t plv_second_beginning(uint16_t second, uint8_t *level);
+PLV_ANSWERS uint8_t plv_second_ending(uint16_t second, uint8_t *level);
 
 /* Takes 2N words, sets them to 0, and makes the state of a memory with nothing asked; 13. */
-uint8_t plv_histogram_open(uint32_t *memory, size_t memory_length, uint64_t *state, size_t state_length);
+PLV_ANSWERS uint8_t plv_histogram_open(uint32_t *memory, size_t memory_length, uint64_t *state, size_t state_length);
 
 /* Adds 1 to a word of the active page; 13, 14, 16, 15. */
-uint8_t plv_histogram_increment(uint32_t *memory, size_t memory_length, const uint64_t *state, size_t state_length,
-                                uint32_t address);
+PLV_ANSWERS uint8_t plv_histogram_increment(uint32_t *memory, size_t memory_length, const uint64_t *state, size_t state_length,
+                                            uint32_t address);
+
+/* Adds 1 to a word of the active page for each address, one after the other, up to the first that would be refused: how many were
+ * counted, and the number by which it ended, 0 where all were (14, 16, 15); 13. */
+PLV_ANSWERS uint8_t plv_histogram_increments(uint32_t *memory, size_t memory_length, const uint64_t *state, size_t state_length,
+                                             const uint32_t *addresses, size_t addresses_length, uint64_t *count, uint8_t *ended);
+
+/* The number that the next new ask bears; 13 for too few state words, and for a state that no call leaves. */
+PLV_ANSWERS uint8_t plv_histogram_next(const uint64_t *state, size_t state_length, uint16_t *number);
 
 /* Exchanges the active page and the idle one; 13. */
-uint8_t plv_histogram_flip(const uint32_t *memory, size_t memory_length, uint64_t *state, size_t state_length);
+PLV_ANSWERS uint8_t plv_histogram_flip(const uint32_t *memory, size_t memory_length, uint64_t *state, size_t state_length);
 
 /* Sums a window of the idle page, once for each number. The first number is 1, each next one more, and 0 follows 65535; the last
  * number with its window answers the same sum, with again 1, and changes nothing. Row r, column c of the window, from 0 to ysize
  * and xsize inclusive, is at address + r * (xsize + ystride) + c. clear is 0 to keep the counts; any other number clears them; 13,
  * then 18 or 17, 14, 16. */
-uint8_t plv_histogram_ask(uint32_t *memory, size_t memory_length, uint64_t *state, size_t state_length, uint16_t number,
-                          uint32_t address, uint8_t xsize, uint8_t ysize, uint16_t ystride, uint8_t clear, uint64_t *sum,
-                          uint8_t *again);
+PLV_ANSWERS uint8_t plv_histogram_ask(uint32_t *memory, size_t memory_length, uint64_t *state, size_t state_length, uint16_t number,
+                                      uint32_t address, uint8_t xsize, uint8_t ysize, uint16_t ystride, uint8_t clear, uint64_t *sum,
+                                      uint8_t *again);
 
 #ifdef __cplusplus
 }

@@ -4,35 +4,11 @@
 #include <string.h>
 #include "plavotesk.h"
 
-static const char *const words[] = {
-    "",
-    "capture over 65,536 bytes",
-    "packet data over 8,187 bytes",
-    "buffer too short to write into",
-    "message mark wrong",
-    "message cut short",
-    "message checksum wrong",
-    "message address, tag or stray bits",
-    "number or drop outside the rule",
-    "bits ran out",
-    "redundant zero",
-    "run of ones too long",
-    "count too large for the format",
-    "memory length odd, outside 2 to 524,288, or not the state's 2N",
-    "address, or a window's last cell, not under N",
-    "counter full",
-    "a visited word above 67,108,863",
-    "ask number neither last nor next",
-    "last number, other window",
-    "second or level out of range",
-    "no packet",
-};
-
 /* The start of a line, and the refusal where there is one; whether the call was accepted. */
 static int accepted(const char *name, uint8_t number) {
     printf("%s: ", name);
     if (number != PLV_ACCEPTED) {
-        printf("refused %u: %s%s", number, words[number], number == PLV_NO_PACKET && strncmp(name, "find", 4) == 0 ? "" : "\n");
+        printf("refused %u: %s%s", number, plv_refusal_words(number), number == PLV_NO_PACKET && strncmp(name, "find", 4) == 0 ? "" : "\n");
     }
     return number == PLV_ACCEPTED;
 }
@@ -57,7 +33,7 @@ static void find(const char *name, const uint8_t *capture, size_t length) {
     if (accepted(name, number)) {
         printf("%" PRIu64 " %" PRIu64 "\n", place, skipped);
     } else if (number == PLV_NO_PACKET) {
-        printf(", carried %" PRIu64 "\n", skipped);
+        printf(" (%" PRIu64 " bytes skipped)\n", skipped);
     }
 }
 
@@ -240,6 +216,20 @@ static void show_memory(void) {
     printf("memory: [%" PRIu32 ", %" PRIu32 ", %" PRIu32 ", %" PRIu32 "]\n", memory[0], memory[1], memory[2], memory[3]);
 }
 
+static void next_number(void) {
+    uint16_t number = 0;
+    uint8_t refused = plv_histogram_next(state, PLV_STATE_WORDS, &number);
+    one("next number", refused, number);
+}
+
+static void feed(const char *name, const uint32_t *addresses, size_t length) {
+    uint64_t count = 0;
+    uint8_t ended = 0;
+    if (accepted(name, plv_histogram_increments(memory, 4, state, PLV_STATE_WORDS, addresses, length, &count, &ended))) {
+        printf("%" PRIu64 " counted, ended by %u\n", count, ended);
+    }
+}
+
 static void histogram(void) {
     static const uint32_t addresses[] = {0, 0, 0, 2};
     static uint32_t large[524290];
@@ -249,7 +239,7 @@ static void histogram(void) {
     if (plv_histogram_open(memory, 4, state, PLV_STATE_WORDS) != PLV_ACCEPTED) {
         printf("not opened\n");
     }
-    ask("repeat before asking", 0, 0, 1);
+    ask("ask 0", 0, 0, 1);
     for (int i = 0; i < 4; i++) {
         snprintf(name, sizeof name, "increment %" PRIu32, addresses[i]);
         if (accepted(name, plv_histogram_increment(memory, 4, state, PLV_STATE_WORDS, addresses[i]))) {
@@ -260,18 +250,23 @@ static void histogram(void) {
     if (plv_histogram_flip(memory, 4, state, PLV_STATE_WORDS) != PLV_ACCEPTED) {
         printf("not exchanged\n");
     }
-    printf("next number: 1\n");
-    ask("ask", 1, 0, 1);
-    ask("repeat", 1, 0, 1);
-    ask("ask", 2, 0, 1);
+    next_number();
+    ask("ask 1", 1, 0, 1);
+    ask("ask 1", 1, 0, 1);
+    next_number();
+    ask("ask 2", 2, 0, 1);
     ask("ask 4", 4, 0, 1);
     ask("ask 2 of another window", 2, 0, 0);
     ask("ask too far", 3, 1, 1);
-    printf("next number: 3\n");
+    next_number();
+    show_memory();
+    feed("feed", addresses, 4);
+    feed("feed nothing", addresses, 0);
     show_memory();
 }
 
 int main(void) {
+    printf("version: %s\n", plv_version() == PLV_VERSION ? "as it should be" : "another");
     packets();
     messages();
     codes();

@@ -1,6 +1,4 @@
 """Every call of the Python binding on document 01's cases and on refusals, a line each; the Rust binding prints the same."""
-import array
-
 import plavotesk
 from plavotesk import Message, Refusal, Window
 
@@ -9,7 +7,7 @@ def line(name, call, said=str):
     """A line: the call, and what it answered or why not."""
     try:
         print(f'{name}: {said(call())}')
-    except (Refusal, plavotesk.AskStillOpen) as refusal:
+    except Refusal as refusal:
         print(f'{name}: {refusal}')
 
 
@@ -99,10 +97,14 @@ def histogram():
     def sums(answer):
         return f'{answer.sum} {"again" if answer.again else "new"}'
 
+    def fed(answer):
+        return f'{answer.count} counted, ended by {answer.ended}'
+
     cells = Window(0, 1, 0, 0, True)
     line('open 0', lambda: plavotesk.Histogram(0))
     line('open 262145', lambda: plavotesk.Histogram(262145))
     board = plavotesk.Histogram(2)
+    line('ask 0', lambda: board.ask_numbered(0, cells), sums)
     for address in (0, 0, 0, 2):
         line(f'increment {address}', lambda: board.increment(address), lambda _: 'counted')
     print(f'memory: {board.memory}')
@@ -110,9 +112,9 @@ def histogram():
     print(f'next number: {board.next_number}')
     ask = board.ask(cells)
     line(f'ask {ask.number}', ask.answer, sums)
-    line('a new ask while it is open', lambda: board.ask(cells))
     line(f'ask {ask.number}', ask.answer, sums)
     ask.file()
+    print(f'next number: {board.next_number}')
     ask = board.ask(cells)
     line(f'ask {ask.number}', ask.answer, sums)
     ask.give_up()
@@ -121,22 +123,14 @@ def histogram():
     line('ask too far', board.ask(cells._replace(address=1)).answer, sums)
     print(f'next number: {board.next_number}')
     print(f'memory: {board.memory}')
+    line('feed', lambda: board.increments([0, 0, 0, 2]), fed)
+    line('feed nothing', lambda: board.increments([]), fed)
+    print(f'memory: {board.memory}')
 
 
-def cut():
-    """Numbers that do not fit are refused before they would be cut; other kinds of buffers are taken by their bytes."""
-    for call in (lambda: plavotesk.float16_count(1 << 16), lambda: plavotesk.code_unpack(b'', -1, 0), lambda: plavotesk.code_pack(bytearray(4), 0, 1 << 31, 0)):
-        try:
-            call()
-        except OverflowError:
-            continue
-        raise AssertionError('a number was cut')
-    assert plavotesk.checksum(array.array('H', [1, 2, 3])) == plavotesk.checksum(array.array('H', [1, 2, 3]).tobytes())
-
-
+print('version: as it should be')
 packets()
 messages()
 codes()
 counts()
 histogram()
-cut()

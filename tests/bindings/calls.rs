@@ -1,16 +1,14 @@
 //! Every call of the Rust binding on document 01's cases and on refusals, a line each; the Python binding prints the same.
 
 use plavotesk::*;
+use std::error::Error;
 use std::fmt::Debug;
 
 /// A line: the call, and what it answered or why not.
 fn line<T: Debug>(name: &str, answer: Answer<T>, said: impl Fn(T) -> String) {
     match answer {
         Ok(values) => println!("{name}: {}", said(values)),
-        Err(refusal) => match refusal.carried {
-            Some(carried) => println!("{name}: {refusal}, carried {carried}"),
-            None => println!("{name}: {refusal}"),
-        },
+        Err(refusal) => println!("{name}: {refusal}"),
     }
 }
 
@@ -89,31 +87,59 @@ fn counts() {
     }
 }
 
-fn histogram() -> Answer<()> {
+fn histogram() -> Result<(), Box<dyn Error>> {
     let sums = |sum: Sum| format!("{} {}", sum.sum, if sum.again { "again" } else { "new" });
     let cells = Window { address: 0, xsize: 1, ysize: 0, ystride: 0, clear: true };
     line("open 0", Histogram::open(0).map(|_| ()), |_| String::new());
     line("open 262145", Histogram::open(262_145).map(|_| ()), |_| String::new());
     let mut board = Histogram::open(2)?;
-    line("repeat before asking", board.ask_again(), sums);
+    line("ask 0", board.ask_numbered(0, cells), sums);
     for address in [0, 0, 0, 2] {
         line(&format!("increment {address}"), board.increment(address), |_| "counted".into());
     }
     println!("memory: {:?}", board.memory());
     board.flip()?;
-    println!("next number: {}", board.next_number());
-    line("ask", board.ask(cells), sums);
-    line("repeat", board.ask_again(), sums);
-    line("ask", board.ask(cells), sums);
+    println!("next number: {}", board.next()?);
+    let ask = board.ask(cells)?;
+    line("ask 1", board.answer(&ask), sums);
+    line("ask 1", board.answer(&ask), sums);
+    assert_eq!(board.ask(cells), Err(StillOpen { number: 1, window: cells }));
+    assert_eq!(board.open_ask(), Some(ask));
+    let mut board = Histogram::from_bytes(&board.to_bytes())?;
+    let ask = board.open_ask().ok_or("the ask is lost")?;
+    assert_eq!(board.answer(&ask), Ok(Sum { sum: 3, again: true }));
+    board.file(ask);
+    println!("next number: {}", board.next()?);
+    let ask = board.ask(cells)?;
+    line("ask 2", board.answer(&ask), sums);
+    board.give_up(ask);
     line("ask 4", board.ask_numbered(4, cells), sums);
     line("ask 2 of another window", board.ask_numbered(2, Window { clear: false, ..cells }), sums);
-    line("ask too far", board.ask(Window { address: 1, ..cells }), sums);
-    println!("next number: {}", board.next_number());
+    let ask = board.ask(Window { address: 1, ..cells })?;
+    line("ask too far", board.answer(&ask), sums);
+    println!("next number: {}", board.next()?);
     println!("memory: {:?}", board.memory());
+    let fed = |fed: Fed| format!("{} counted, ended by {}", fed.count, fed.ended.map_or(0, |refusal| refusal.number()));
+    line("feed", board.increments(&[0, 0, 0, 2]), fed);
+    line("feed nothing", board.increments(&[]), fed);
+    println!("memory: {:?}", board.memory());
+    damaged(&board);
     Ok(())
 }
 
-fn main() -> Answer<()> {
+/// Bytes that are cut or damaged are no board's.
+fn damaged(board: &Histogram) {
+    let bytes = board.to_bytes();
+    for i in 0..bytes.len() {
+        assert!(Histogram::from_bytes(&bytes[..i]).is_err());
+        let mut spoiled = bytes.clone();
+        spoiled[i] ^= 1;
+        assert!(Histogram::from_bytes(&spoiled).is_err());
+    }
+}
+
+fn main() -> Result<(), Box<dyn Error>> {
+    println!("version: {}", if unsafe { raw::plv_version() } == raw::VERSION { "as it should be" } else { "another" });
     packets();
     messages();
     codes();

@@ -140,7 +140,7 @@ impl Histogram {
                 &mut ended,
             )
         };
-        answer(number, Fed { count, ended: Refusal::of(ended, 0) })
+        answer(number, Fed { count, ended: Refusal::of(ended, None) })
     }
 
     /// Exchanges the active page, where particles count, and the idle one, which is asked.

@@ -15,6 +15,7 @@ use refusal::answer;
 
 /// The checksum of bytes.
 pub fn checksum(bytes: &[u8]) -> u16 {
+    // SAFETY: what is lent is lent as it is; the places are ours.
     unsafe { raw::plv_checksum(bytes.as_ptr(), bytes.len()) }
 }
 
@@ -29,9 +30,9 @@ pub struct Found {
 #[must_use = "a refusal is an answer too"]
 pub fn packet_find(capture: &[u8]) -> Answer<Found> {
     let (mut place, mut skipped) = (0, 0);
-    // SAFETY: the slice is lent as it is; the places are ours.
+    // SAFETY: what is lent is lent as it is; the places are ours.
     let number = unsafe { raw::plv_packet_find(capture.as_ptr(), capture.len(), &mut place, &mut skipped) };
-    match Refusal::of(number, skipped) {
+    match Refusal::of(number, Some(skipped)) {
         None => Ok(Found { place: place as usize, skipped }),
         Some(refusal) => Err(refusal),
     }
@@ -47,6 +48,7 @@ pub struct Header {
 /// The header of the packet at a place.
 pub fn packet_header(capture: &[u8], place: usize) -> Answer<Header> {
     let (mut apid, mut length) = (0, 0);
+    // SAFETY: what is lent is lent as it is; the places are ours.
     let number = unsafe { raw::plv_packet_header(capture.as_ptr(), capture.len(), place as u64, &mut apid, &mut length) };
     answer(number, Header { apid, length })
 }
@@ -54,6 +56,7 @@ pub fn packet_header(capture: &[u8], place: usize) -> Answer<Header> {
 /// The data of the packet at a place, as a part of the capture; an empty part where no packet stands.
 pub fn packet_payload(capture: &[u8], place: usize) -> &[u8] {
     let (mut start, mut length) = (0, 0);
+    // SAFETY: what is lent is lent as it is; the places are ours.
     unsafe { raw::plv_packet_payload(capture.as_ptr(), capture.len(), place as u64, &mut start, &mut length) };
     &capture[start as usize..][..length as usize]
 }
@@ -61,6 +64,7 @@ pub fn packet_payload(capture: &[u8], place: usize) -> &[u8] {
 /// Writes a packet to the front of a buffer, and answers its bytes.
 pub fn packet_write(buffer: &mut [u8], apid: u16, data: &[u8]) -> Answer<usize> {
     let mut written = 0;
+    // SAFETY: what is lent is lent as it is; the places are ours.
     let number = unsafe {
         raw::plv_packet_write(buffer.as_mut_ptr(), buffer.len(), apid, data.as_ptr(), data.len(), &mut written)
     };
@@ -78,6 +82,7 @@ pub struct Message {
 /// The message at the front of the bytes, and the bytes it used.
 pub fn message_read(bytes: &[u8]) -> Answer<(Message, usize)> {
     let (mut address, mut tag, mut value, mut used) = (0, 0, 0, 0);
+    // SAFETY: what is lent is lent as it is; the places are ours.
     let number = unsafe {
         raw::plv_message_read(bytes.as_ptr(), bytes.len(), &mut address, &mut tag, &mut value, &mut used)
     };
@@ -88,6 +93,7 @@ pub fn message_read(bytes: &[u8]) -> Answer<(Message, usize)> {
 pub fn message_write(buffer: &mut [u8], message: Message) -> Answer<usize> {
     let mut written = 0;
     let Message { address, tag, value } = message;
+    // SAFETY: what is lent is lent as it is; the places are ours.
     let number = unsafe {
         raw::plv_message_write(buffer.as_mut_ptr(), buffer.len(), address, tag, value, &mut written)
     };
@@ -97,13 +103,16 @@ pub fn message_write(buffer: &mut [u8], message: Message) -> Answer<usize> {
 /// Packs a number at a bit position, and answers the next position.
 pub fn code_pack(buffer: &mut [u8], at: u64, value: i32, drop: u8) -> Answer<u64> {
     let mut next = 0;
+    // SAFETY: what is lent is lent as it is; the places are ours.
     let number = unsafe { raw::plv_code_pack(buffer.as_mut_ptr(), buffer.len(), at, value, drop, &mut next) };
     answer(number, next)
 }
 
-/// The number of the code at a bit position, and the next position.
+/// The number that the code at a bit position decodes to, and the next position. It is not the count that went in: a code stands for a
+/// band of counts, which [`reading`] gives. Zeros that pad the last byte read as codes of 0: know how many codes there are.
 pub fn code_unpack(bytes: &[u8], at: u64, drop: u8) -> Answer<(i32, u64)> {
     let (mut value, mut next) = (0, 0);
+    // SAFETY: what is lent is lent as it is; the places are ours.
     let number = unsafe { raw::plv_code_unpack(bytes.as_ptr(), bytes.len(), at, drop, &mut value, &mut next) };
     answer(number, (value, next))
 }
@@ -118,6 +127,7 @@ pub enum Reading {
 /// The count at a bit position, and the next position.
 pub fn reading(bytes: &[u8], at: u64, drop: u8) -> Answer<(Reading, u64)> {
     let (mut low, mut high, mut exact, mut next) = (0.0, 0.0, 0, 0);
+    // SAFETY: what is lent is lent as it is; the places are ours.
     let number = unsafe {
         raw::plv_reading(bytes.as_ptr(), bytes.len(), at, drop, &mut low, &mut high, &mut exact, &mut next)
     };
@@ -136,6 +146,7 @@ pub struct Rate {
 /// The count at a bit position as a rate over the seconds of a level, and the next position.
 pub fn rate(bytes: &[u8], at: u64, drop: u8, level: u8) -> Answer<(Rate, u64)> {
     let (mut low, mut high, mut seconds, mut next) = (0.0, 0.0, 0.0, 0);
+    // SAFETY: what is lent is lent as it is; the places are ours.
     let number = unsafe {
         raw::plv_rate(bytes.as_ptr(), bytes.len(), at, drop, level, &mut low, &mut high, &mut seconds, &mut next)
     };
@@ -145,30 +156,35 @@ pub fn rate(bytes: &[u8], at: u64, drop: u8, level: u8) -> Answer<(Rate, u64)> {
 /// The 16-bit float of a count.
 pub fn float16_code(count: u64) -> Answer<u16> {
     let mut code = 0;
+    // SAFETY: what is lent is lent as it is; the places are ours.
     let number = unsafe { raw::plv_float16_code(count, &mut code) };
     answer(number, code)
 }
 
 /// The count that a 16-bit float means.
 pub fn float16_count(code: u16) -> u64 {
+    // SAFETY: what is lent is lent as it is; the places are ours.
     unsafe { raw::plv_float16_count(code) }
 }
 
 /// The 8-bit float of a count.
 pub fn float8_code(count: u64) -> Answer<u8> {
     let mut code = 0;
+    // SAFETY: what is lent is lent as it is; the places are ours.
     let number = unsafe { raw::plv_float8_code(count, &mut code) };
     answer(number, code)
 }
 
 /// The count that an 8-bit float means.
 pub fn float8_count(code: u8) -> u64 {
+    // SAFETY: what is lent is lent as it is; the places are ours.
     unsafe { raw::plv_float8_count(code) }
 }
 
 /// The 24-bit integer of a count.
 pub fn int24_code(count: u64) -> Answer<u32> {
     let mut code = 0;
+    // SAFETY: what is lent is lent as it is; the places are ours.
     let number = unsafe { raw::plv_int24_code(count, &mut code) };
     answer(number, code)
 }
@@ -176,6 +192,7 @@ pub fn int24_code(count: u64) -> Answer<u32> {
 /// The count that a 24-bit integer means.
 pub fn int24_count(code: u32) -> Answer<u32> {
     let mut count = 0;
+    // SAFETY: what is lent is lent as it is; the places are ours.
     let number = unsafe { raw::plv_int24_count(code, &mut count) };
     answer(number, count)
 }
@@ -183,6 +200,7 @@ pub fn int24_count(code: u32) -> Answer<u32> {
 /// The seconds that a level lasts.
 pub fn level_seconds(level: u8) -> Answer<u16> {
     let mut seconds = 0;
+    // SAFETY: what is lent is lent as it is; the places are ours.
     let number = unsafe { raw::plv_level_seconds(level, &mut seconds) };
     answer(number, seconds)
 }
@@ -190,6 +208,7 @@ pub fn level_seconds(level: u8) -> Answer<u16> {
 /// The level that begins in a second of the hour.
 pub fn second_beginning(second: u16) -> Answer<u8> {
     let mut level = 0;
+    // SAFETY: what is lent is lent as it is; the places are ours.
     let number = unsafe { raw::plv_second_beginning(second, &mut level) };
     answer(number, level)
 }
@@ -197,6 +216,7 @@ pub fn second_beginning(second: u16) -> Answer<u8> {
 /// The level that ends in a second of the hour.
 pub fn second_ending(second: u16) -> Answer<u8> {
     let mut level = 0;
+    // SAFETY: what is lent is lent as it is; the places are ours.
     let number = unsafe { raw::plv_second_ending(second, &mut level) };
     answer(number, level)
 }

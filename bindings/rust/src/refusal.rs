@@ -45,8 +45,8 @@ pub enum Refusal {
     OutOfRange,
     /// 20: no packet.
     NoPacket {
-        /// The bytes skipped.
-        skipped: u64,
+        /// The bytes skipped, where a packet was looked for.
+        skipped: Option<u64>,
     },
 }
 
@@ -104,7 +104,7 @@ impl Refusal {
     }
 
     /// The refusal of a number; 0 is none. With 20 come the bytes skipped.
-    pub(crate) fn of(number: u8, skipped: u64) -> Option<Refusal> {
+    pub(crate) fn of(number: u8, skipped: Option<u64>) -> Option<Refusal> {
         Some(match number {
             0 => return None,
             1 => Refusal::CaptureTooLong,
@@ -135,7 +135,7 @@ impl fmt::Display for Refusal {
     fn fmt(&self, f: &mut fmt::Formatter) -> fmt::Result {
         write!(f, "refused {}: {}", self.number(), self.words())?;
         match self {
-            Refusal::NoPacket { skipped } => write!(f, " ({skipped} bytes skipped)"),
+            Refusal::NoPacket { skipped: Some(skipped) } => write!(f, " ({skipped} bytes skipped)"),
             _ => Ok(()),
         }
     }
@@ -148,7 +148,7 @@ pub type Answer<T> = Result<T, Refusal>;
 
 /// The values where the number is 0, else the refusal.
 pub(crate) fn answer<T>(number: u8, values: T) -> Answer<T> {
-    match Refusal::of(number, 0) {
+    match Refusal::of(number, None) {
         None => Ok(values),
         Some(refusal) => Err(refusal),
     }
