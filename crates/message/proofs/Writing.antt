@@ -3,49 +3,29 @@
 use mathlib.Core.Path.{_≡_, refl, sym, ap, ap₂, _∙_}
 use mathlib.Core.Bool.{true, false}
 use mathlib.Core.List.{List, _++_}
-use Prim.Native.Nat.{ℕ, _+_, _^_, _<_, _≤_}
+use Prim.Native.Nat.{ℕ, _+_, _<_, _≤_}
 use native.Mathlib.Nat.{add-comm}
 use native.Mathlib.Omega.{arith}
-use borrow.Author.Tests.{lt-ltb, le-ltb, leb-true, ltb-true}
+use borrow.Author.Tests.{lt-ltb, le-ltb}
 use lib.ListN.{length, take, drop}
 use lib.Seq.{take-at}
-use Rattle.ground.specs.Questions.{both-hold}
-use Rattle.ground.specs.Paper.{Paper, accepted, refused}
+use Rattle.ground.specs.Outcome.{accept, refuse}
 use Rattle.ground.specs.Words.{bytesOf, length-bytesOf}
 use Rattle.ground.specs.Putting.{put, put-next}
 use Rattle.crc.specs.Meaning.{checksumOf}
-use Rattle.message.specs.Meaning.{mark, dataSize, tagWord, covered, messageOf, sayable, writeMeans, writeLeaves}
-
--- an address, a tag and a value within the rule
-pub record Within (address tag value : ℕ) : Type 0 where
-  pub near : address ≤ 0x3FFF
-  pub known : tag ≤ 3
-  pub bits : value < 256 ^ dataSize tag
-
-pub within : (address tag value : ℕ) → sayable address tag value ≡ true → Within address tag value
-within address tag value e =
-    let first = both-hold e in
-    let second = both-hold (first .1) in
-    record { near = leb-true _ _ (first .0); known = leb-true _ _ (second .0); bits = ltb-true _ _ (second .1) }
-
--- what is answered, and what the buffer holds afterwards
-pub record Ends (buffer : List ℕ) (address tag value : ℕ) (paper : Paper ℕ) (after : List ℕ) : Type 0 where
-  pub answer : paper ≡ writeMeans buffer address tag value
-  pub memory : after ≡ writeLeaves buffer address tag value
+use Rattle.message.specs.Meaning.{mark, dataSize, tagWord, covered, messageOf, sayable, writeMeans}
 
 module _ (buffer : List ℕ) (address tag value : ℕ) where
-  pub unsayable : sayable address tag value ≡ false → Ends buffer address tag value (refused 7) buffer
-  unfolding writeMeans writeLeaves
-  unsayable e = record { answer = rw e; memory = rw e }
+  -- an address, a tag or bits outside the rule
+  pub unsayable : sayable address tag value ≡ false → refuse 7 buffer ≡ writeMeans buffer address tag value
+  unfolding writeMeans
+  unsayable e = rw e
 
   module _ (size : ℕ) (is : size ≡ dataSize tag) (said : sayable address tag value ≡ true) where
-    pub too-short : length buffer < size + 6 → Ends buffer address tag value (refused 3) buffer
-    unfolding writeMeans writeLeaves
-    too-short h =
-        record {
-          answer = rw (said, ← is, lt-ltb (length buffer) (size + 6) h);
-          memory = rw (said, ← is, lt-ltb (length buffer) (size + 6) h);
-        }
+    -- a buffer that is too short
+    pub too-short : length buffer < size + 6 → refuse 3 buffer ≡ writeMeans buffer address tag value
+    unfolding writeMeans
+    too-short h = rw (said, ← is, lt-ltb (length buffer) (size + 6) h)
 
     data-length : length (bytesOf size value) ≡ size
     data-length = length-bytesOf size value
@@ -78,10 +58,6 @@ module _ (buffer : List ℕ) (address tag value : ℕ) where
           ∙ ap (λ (k : ℕ). messageOf address tag value ++ drop k buffer) past
 
       pub done : {l₄ : List ℕ} {sum : ℕ} → size + 6 ≤ length buffer → sum ≡ checksumOf (take (size + 4) l₃)
-          → l₄ ≡ put l₃ (size + 4) (bytesOf 2 sum) → Ends buffer address tag value (accepted (size + 6)) l₄
-      unfolding writeMeans writeLeaves
-      done h s t =
-          record {
-            answer = rw (said, ← is, le-ltb (length buffer) (size + 6) h);
-            memory = rw (said, ← is, le-ltb (length buffer) (size + 6) h) (whole s t);
-          }
+          → l₄ ≡ put l₃ (size + 4) (bytesOf 2 sum) → accept (size + 6) l₄ ≡ writeMeans buffer address tag value
+      unfolding writeMeans
+      done h s t = rw (said, ← is, le-ltb (length buffer) (size + 6) h) (ap (accept (size + 6)) (whole s t))

@@ -7,6 +7,7 @@ use lib.Dec.{leb, ltb, eqb}
 use lib.ListN.{length, take, drop, getD}
 use Rattle.ground.specs.Choice.{pick}
 use Rattle.ground.specs.Paper.{Paper, accepted, refused}
+use Rattle.ground.specs.Outcome.{Outcome, accept, refuse}
 use Rattle.ground.specs.Words.{number, bytesOf, wordAt}
 use Rattle.crc.specs.Meaning.{checksumOf}
 
@@ -76,14 +77,9 @@ readMeans bytes =
 abbrev pub sayable : ℕ → ℕ → ℕ → Bool
 sayable address tag value = leb address 0x3FFF && (leb tag 3 && ltb value (256 ^ dataSize tag))
 
--- writing: 7, then 3; it "answers the bytes written"
-unfoldable pub writeMeans : List ℕ → ℕ → ℕ → ℕ → Paper ℕ
+-- writing: 7, then 3; it "refuses bits beyond the size, answers the bytes written and leaves those past the message"
+unfoldable pub writeMeans : List ℕ → ℕ → ℕ → ℕ → Outcome ℕ (List ℕ)
 writeMeans buffer address tag value =
-    pick (not (sayable address tag value)) (refused 7)
-    (pick (ltb (length buffer) (dataSize tag + 6)) (refused 3) (accepted (dataSize tag + 6)))
-
--- ".. and leaves those past the message"; on a refusal the buffer stays
-unfoldable pub writeLeaves : List ℕ → ℕ → ℕ → ℕ → List ℕ
-writeLeaves buffer address tag value =
-    pick (not (sayable address tag value)) buffer
-    (pick (ltb (length buffer) (dataSize tag + 6)) buffer (messageOf address tag value ++ drop (dataSize tag + 6) buffer))
+    pick (not (sayable address tag value)) (refuse 7 buffer)
+    (pick (ltb (length buffer) (dataSize tag + 6)) (refuse 3 buffer)
+    (accept (dataSize tag + 6) (messageOf address tag value ++ drop (dataSize tag + 6) buffer)))

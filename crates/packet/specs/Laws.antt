@@ -1,18 +1,21 @@
 -- What holds where a packet stands, and how finding goes on: what callers cite.
 -- Assumes nothing.
-use mathlib.Core.Path.{_≡_}
+use mathlib.Core.Path.{_≡_, refl}
 use mathlib.Core.Bool.{true, false}
 use mathlib.Core.List.{List}
 use Prim.Native.Nat.{ℕ, suc, _+_, _-_, _<_, _≤_}
 use native.Mathlib.Numerals.{add-one}
 use native.Mathlib.Omega.{arith}
 use borrow.Author.Tests.{leb-true, ltb-true, eqb-true, le-leb, lt-ltb, eq-eqb}
+use lib.Dec.{ltb}
 use lib.ListN.{length, take, drop}
 use Rattle.ground.specs.Questions.{both-hold}
+use Rattle.ground.specs.Choice.{pick-elim}
 use Rattle.ground.specs.Paper.{accepted, refusedWith}
+use Rattle.ground.specs.Outcome.{Stays}
 use Rattle.ground.specs.Words.{wordAt}
 use Rattle.crc.specs.Meaning.{checksumOf}
-use Rattle.packet.specs.Meaning.{marked, dataLength, stands, failedBefore, findFrom}
+use Rattle.packet.specs.Meaning.{marked, dataLength, stands, failedBefore, findFrom, writeMeans}
 
 -- mark, length and checksum agree at a place
 pub record Standing (l : List ℕ) (at : ℕ) : Type 0 where
@@ -77,3 +80,10 @@ pub find-none : (l : List ℕ) (at : ℕ) → length l ≤ at → findFrom l at 
 find-none l at h =
     let left : length l - at ≡ 0 = omega arith in
     rw left
+
+-- demand 1 of writing: where it is refused, the buffer is as it was
+pub write-stays : (buffer : List ℕ) (apid : ℕ) (payload : List ℕ) → Stays buffer (writeMeans buffer apid payload)
+unfolding writeMeans
+write-stays buffer apid payload =
+    pick-elim (Stays buffer) (ltb 8187 (length payload)) _ _ (λ large f. refl)
+    (λ small. pick-elim (Stays buffer) (ltb (length buffer) (length payload + 10)) _ _ (λ short f. refl) (λ room f. absurd (f refl)))

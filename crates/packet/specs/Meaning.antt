@@ -7,6 +7,7 @@ use lib.Dec.{leb, ltb, eqb}
 use lib.ListN.{length, take, drop, getD}
 use Rattle.ground.specs.Choice.{pick}
 use Rattle.ground.specs.Paper.{Paper, accepted, refused, refusedWith}
+use Rattle.ground.specs.Outcome.{Outcome, accept, refuse}
 use Rattle.ground.specs.Words.{bytesOf, wordAt}
 use Rattle.crc.specs.Meaning.{checksumOf}
 use Rattle.ground.specs.Meaning.{lies}
@@ -98,14 +99,9 @@ payloadStart capture at = pick (handed capture at) (at + 8) 0
 unfoldable pub payloadMeans : List ℕ → ℕ → List ℕ
 payloadMeans capture at = pick (handed capture at) (take (dataLength capture at) (drop (at + 8) capture)) []
 
--- writing: 2, then 3; "It answers n+10"
-unfoldable pub writeMeans : List ℕ → List ℕ → Paper ℕ
-writeMeans buffer payload =
-    pick (ltb 8187 (length payload)) (refused 2)
-    (pick (ltb (length buffer) (length payload + 10)) (refused 3) (accepted (length payload + 10)))
-
--- "those bytes read back as the packet; bytes past them keep what they held"; on a refusal the buffer stays
-unfoldable pub writeLeaves : List ℕ → ℕ → List ℕ → List ℕ
-writeLeaves buffer apid payload =
-    pick (ltb 8187 (length payload)) buffer
-    (pick (ltb (length buffer) (length payload + 10)) buffer (packetOf apid payload ++ drop (length payload + 10) buffer))
+-- writing: 2, then 3; "It answers n+10, and those bytes read back as the packet; bytes past them keep what they held."
+unfoldable pub writeMeans : List ℕ → ℕ → List ℕ → Outcome ℕ (List ℕ)
+writeMeans buffer apid payload =
+    pick (ltb 8187 (length payload)) (refuse 2 buffer)
+    (pick (ltb (length buffer) (length payload + 10)) (refuse 3 buffer)
+    (accept (length payload + 10) (packetOf apid payload ++ drop (length payload + 10) buffer)))

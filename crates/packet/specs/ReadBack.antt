@@ -1,7 +1,7 @@
 -- "those bytes read back as the packet": whatever follows in the buffer.
 -- Assumes nothing.
 use mathlib.Core.Path.{_≡_, refl, sym, ap, ap₂, _∙_}
-use mathlib.Core.Bool.{Bool, true, false}
+use mathlib.Core.Bool.{true}
 use mathlib.Core.List.{List, _++_, append-assoc}
 use Prim.Native.Nat.{ℕ, _+_, _-_, _^_, _<_, _≤_}
 use native.Mathlib.Nat.{zero-add, sub-zero}
@@ -10,11 +10,13 @@ use borrow.Author.Tests.{le-ltb, ltb-false}
 use lib.Dec.{ltb}
 use lib.ListN.{length, take, drop, length-append}
 use lib.Seq.{take-at, drop-at}
-use Rattle.ground.specs.Paper.{accepted}
+use Rattle.ground.specs.Choice.{pick-elim}
+use Rattle.ground.specs.Paper.{accepted, accepted-same, refused-not}
+use Rattle.ground.specs.Outcome.{Outcome, accept, refuse}
 use Rattle.ground.specs.Words.{number, bytesOf, wordAt, number-bytesOf}
 use Rattle.crc.specs.Meaning.{checksumOf}
 use Rattle.crc.specs.Laws.{checksum-lt}
-use Rattle.packet.specs.Meaning.{covered, packetOf, dataLength, stands, findFrom, findMeans, headerMeans, payloadMeans, writeMeans, writeLeaves}
+use Rattle.packet.specs.Meaning.{covered, packetOf, dataLength, stands, findFrom, findMeans, headerMeans, payloadMeans, writeMeans}
 use Rattle.packet.specs.Laws.{Standing, stands-so, find-here}
 
 -- a written packet and whatever follows it
@@ -99,27 +101,29 @@ module _ (apid : ℕ) (payload rest : List ℕ) (small : length payload ≤ 8187
         ∙ take-at payload (sum ++ rest) (length payload) refl)
 
 -- writing was accepted: the data was small enough, the buffer long enough, and it holds the packet and what lay past it
-pub record Accepted (buffer : List ℕ) (apid : ℕ) (payload : List ℕ) (n : ℕ) : Type 0 where
+pub record Accepted (buffer : List ℕ) (apid : ℕ) (payload : List ℕ) (n : ℕ) (after : List ℕ) : Type 0 where
   pub small : length payload ≤ 8187
   pub room : length payload + 10 ≤ length buffer
   pub count : n ≡ length payload + 10
-  pub leaves : writeLeaves buffer apid payload ≡ written apid payload (drop (length payload + 10) buffer)
+  pub leaves : after ≡ written apid payload (drop (length payload + 10) buffer)
 
--- what an accepted answer of writing says
-pub write-accepted : (buffer : List ℕ) (apid : ℕ) (payload : List ℕ) {n : ℕ} → writeMeans buffer payload ≡ accepted n
-    → Accepted buffer apid payload n
-unfolding writeMeans writeLeaves
-write-accepted buffer apid payload {n} =
-    go (ltb 8187 (length payload)) (ltb (length buffer) (length payload + 10)) refl refl
+-- what an accepted outcome of writing says
+pub write-accepted : (buffer : List ℕ) (apid : ℕ) (payload : List ℕ) {n : ℕ} {after : List ℕ} → accept n after ≡ writeMeans buffer apid payload
+    → Accepted buffer apid payload n after
+unfolding writeMeans
+write-accepted buffer apid payload {n} {after} =
+    pick-elim Says (ltb 8187 (length payload)) _ _ (λ large. refuses)
+    (λ small. pick-elim Says (ltb (length buffer) (length payload + 10)) _ _ (λ short. refuses)
+    (λ room e.
+    record {
+      small = ltb-false 8187 (length payload) small;
+      room = ltb-false (length buffer) (length payload + 10) room;
+      count = accepted-same (ap (λ (o : Outcome ℕ (List ℕ)). o .answer) e);
+      leaves = ap (λ (o : Outcome ℕ (List ℕ)). o .leaves) e;
+    }))
   where
-    go : (s t : Bool) → ltb 8187 (length payload) ≡ s → ltb (length buffer) (length payload + 10) ≡ t
-        → writeMeans buffer payload ≡ accepted n → Accepted buffer apid payload n
-    go true t e f a = let z : _≡_ {A = ℕ} 0 1 = cc (rw e at a) in absurd (omega arith)
-    go false true e f a = let z : _≡_ {A = ℕ} 0 1 = cc (rw (e, f) at a) in absurd (omega arith)
-    go false false e f a =
-        record {
-          small = ltb-false 8187 (length payload) e;
-          room = ltb-false (length buffer) (length payload + 10) f;
-          count = cc (rw (e, f) at a);
-          leaves = rw (e, f);
-        }
+    Says : Outcome ℕ (List ℕ) → Type 0
+    Says o = accept n after ≡ o → Accepted buffer apid payload n after
+
+    refuses : {k : ℕ} → Says (refuse k buffer)
+    refuses e = absurd (refused-not (sym (ap (λ (o : Outcome ℕ (List ℕ)). o .answer) e)))

@@ -10,26 +10,29 @@ use Rattle.packet.proofs.write.Tie as tie
 
 returns : tie.Need-returns
 returns c =
-    let r = too-much (c .before .before .before .args .buffer .now) (c .before .before .before .args .apid) (c .before .before .before .args .payload .now)
-    (search needs) in
-    record { answer = r .answer; memory = r .memory }
+    record {
+      outcome = too-much (c .before .before .before .args .buffer .now) (c .before .before .before .args .apid) (c .before .before .before .args .payload .now)
+          (search needs);
+    }
 
 returns-2 : tie.Need-returns-2
 returns-2 c =
-    let r = too-short (c .before .before .before .before .args .buffer .now) (c .before .before .before .before .args .apid)
-    (c .before .before .before .before .args .payload .now) (search needs) (search needs) in
-    record { answer = r .answer; memory = r .memory }
+    record {
+      outcome = too-short (c .before .before .before .before .args .buffer .now) (c .before .before .before .before .args .apid)
+          (c .before .before .before .before .args .payload .now) (search needs) (search needs);
+    }
 
 returns-3 : tie.Need-returns-3
 returns-3 c =
-    let r = done (c .before .before .before .before .before .before .before .before .before .before .before .before .before .before .before .before .before
-    .before .args .buffer .now) (c .before .before .before .before .before .before .before .before .before .before .before .before .before .before .before
-    .before .before .before .args .apid) (c .before .before .before .before .before .before .before .before .before .before .before .before .before .before
-    .before .before .before .before .args .payload .now) (search needs) (search needs)
-    (c .before .before .before .before .before .before .before .before .before .before .before .before .put-header .ensures)
-    (c .before .before .before .before .before .before .before .before .copied .ensures) (c .before .before .before .before .checksum .ensures .answer)
-    (put-there (c .before .before .put-word .ensures) (search needs)) in
-    record { answer = r .answer; memory = r .memory }
+    record {
+      outcome = done (c .before .before .before .before .before .before .before .before .before .before .before .before .before .before .before .before .before
+          .before .args .buffer .now) (c .before .before .before .before .before .before .before .before .before .before .before .before .before .before .before
+          .before .before .before .args .apid) (c .before .before .before .before .before .before .before .before .before .before .before .before .before .before
+          .before .before .before .before .args .payload .now) (search needs) (search needs)
+          (c .before .before .before .before .before .before .before .before .before .before .before .before .put-header .ensures)
+          (c .before .before .before .before .before .before .before .before .copied .ensures) (c .before .before .before .before .checksum .ensures .answer)
+          (put-there (c .before .before .put-word .ensures) (search needs));
+    }
 
 pub write-spec : {M : Type 1} → statement M
 write-spec =
