@@ -9,7 +9,7 @@ use Rattle.ground.specs.Choice.{pick}
 use Rattle.ground.specs.Paper.{Paper, accepted, refused}
 use Rattle.ground.specs.Outcome.{Outcome, accept, refuse}
 use Rattle.ground.specs.Words.{number, bytesOf, wordAt}
-use Rattle.crc.specs.Meaning.{checksumOf}
+use Rattle.crc.specs.Meaning.{sealedOf, sealedAt}
 
 -- "bytes 3C 3D"
 abbrev pub mark : List ℕ
@@ -30,9 +30,9 @@ tagWord address tag = tag * 2 ^ 14 + address
 abbrev pub covered : ℕ → ℕ → ℕ → List ℕ
 covered address tag value = mark ++ (bytesOf 2 (tagWord address tag) ++ bytesOf (dataSize tag) value)
 
--- ".. checksum": it covers "every byte before it, mark included"
+-- ".. checksum": all that with its checksum behind it
 unfoldable pub messageOf : ℕ → ℕ → ℕ → List ℕ
-messageOf address tag value = covered address tag value ++ bytesOf 2 (checksumOf (covered address tag value))
+messageOf address tag value = sealedOf (covered address tag value)
 
 -- the mark stands at the front
 abbrev pub marked : List ℕ → Bool
@@ -55,7 +55,7 @@ valueAt bytes = number (take (sizeAt bytes) (drop 4 bytes))
 
 -- the checksum of all before it is the word after the data
 abbrev pub checked : List ℕ → Bool
-checked bytes = eqb (checksumOf (take (sizeAt bytes + 4) bytes)) (wordAt bytes (sizeAt bytes + 4))
+checked bytes = sealedAt bytes 0 (sizeAt bytes + 4)
 
 -- what a message says, and "the count used"
 pub record ReadValues : Type 0 where

@@ -10,11 +10,11 @@ use borrow.Rule.Slice.PartMut.{putMid, post-is}
 use lib.ListN.{length, take, drop}
 use lib.Seq.{take-at, drop-at, drop-drop}
 use Rattle.ground.specs.Outcome.{accept, refuse}
-use Rattle.ground.specs.Words.{bytesOf}
-use Rattle.crc.specs.Meaning.{checksumOf}
+use Rattle.crc.specs.Promise.{SealPromise}
+use Rattle.crc.specs.Sealing.{seal-front}
 use Rattle.packet.specs.Meaning.{covered, packetOf, writeMeans}
-use Rattle.ground.specs.Putting.{put, put-next}
 use Rattle.packet.specs.Putting.{headOf}
+use Rattle.packet.specs.ReadBack.{covered-length}
 
 module _ (buffer : List ℕ) (apid : ℕ) (payload : List ℕ) where
   -- more data than a packet takes
@@ -26,9 +26,6 @@ module _ (buffer : List ℕ) (apid : ℕ) (payload : List ℕ) where
   pub too-short : length payload ≤ 8187 → length buffer < length payload + 10 → refuse 3 buffer ≡ writeMeans buffer apid payload
   unfolding writeMeans
   too-short g h = rw (le-ltb 8187 (length payload) g, lt-ltb (length buffer) (length payload + 10) h)
-
-  covered-length : length (covered apid payload) ≡ length payload + 8
-  covered-length = omega arith
 
   -- the data in the middle, after the header
   filled : {head part : List ℕ} → head ≡ headOf (length payload + 4) apid ++ drop 8 buffer → part ≡ payload
@@ -46,26 +43,16 @@ module _ (buffer : List ℕ) (apid : ℕ) (payload : List ℕ) where
       ∙ ap (λ (k : ℕ). drop k buffer) (add-comm 8 n))
       ∙ sym (append-assoc h payload (drop (n + 8) buffer))
 
-  -- what the checksum is formed over
-  pub summed : {head part : List ℕ} → head ≡ headOf (length payload + 4) apid ++ drop 8 buffer → part ≡ payload
-      → take (length payload + 8) (putMid 8 (length payload + 8 - 8) head part) ≡ covered apid payload
-  summed p q =
-      ap (take (length payload + 8)) (filled p q)
-      ∙ take-at (covered apid payload) (drop (length payload + 8) buffer) (length payload + 8) covered-length
-
   -- the whole packet, and what lay past it
-  pub done : {head part after : List ℕ} {sum : ℕ} → length payload ≤ 8187 → length payload + 10 ≤ length buffer
+  pub done : {head part after : List ℕ} → length payload ≤ 8187 → length payload + 10 ≤ length buffer
       → head ≡ headOf (length payload + 4) apid ++ drop 8 buffer → part ≡ payload
-      → sum ≡ checksumOf (take (length payload + 8) (putMid 8 (length payload + 8 - 8) head part))
-      → after ≡ put (putMid 8 (length payload + 8 - 8) head part) (length payload + 8) (bytesOf 2 sum)
+      → SealPromise (putMid 8 (length payload + 8 - 8) head part) (length payload + 8) after
       → accept (length payload + 10) after ≡ writeMeans buffer apid payload
   unfolding writeMeans packetOf
-  done {head} {part} {after} {sum} g h p q s t =
+  done {after = after} g h p q s =
       let n = length payload in
       let past : n + 8 + 2 ≡ n + 10 = omega arith in
       let whole : after ≡ packetOf apid payload ++ drop (n + 10) buffer =
-      t
-      ∙ ap₂ (λ (x : List ℕ) (y : ℕ). put x (n + 8) (bytesOf 2 y)) (filled p q) (s ∙ ap checksumOf (summed p q))
-      ∙ put-next (covered apid payload) buffer (bytesOf 2 (checksumOf (covered apid payload))) (n + 8) covered-length
+      seal-front (covered apid payload) buffer (n + 8) (covered-length apid payload) (omega arith) (filled p q) s
       ∙ ap (λ (k : ℕ). packetOf apid payload ++ drop k buffer) past in
       rw (le-ltb 8187 n g, le-ltb (length buffer) (n + 10) h) (ap (accept (n + 10)) whole)
