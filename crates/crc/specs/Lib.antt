@@ -3,3 +3,4 @@ pub mod Laws
 pub mod Folding
 pub mod Promise
 pub mod OneOutcome
+pub mod Sealing

@@ -4,8 +4,11 @@ ghost use Prim.Native.Nat.{_+_, _*_, _/_, _%_, _^_, _<_, _≤_};
 ghost use lib.Bits.{bitXor};
 ghost use lib.ListN.{length, drop};
 ghost use Rattle.crc.specs.Meaning.{step, run};
-ghost use Rattle.crc.specs.Promise.{ChecksumPromise};
+ghost use Rattle.crc.specs.Promise.{ChecksumPromise, SealedPromise, SealPromise};
 ghost use Rattle.crc.specs.Folding.{sixteen, carryOf, spreadOf, taken, stand, Pair, Word};
+use ground::lies_in;
+use ground::put_word;
+use ground::word_at;
 
 // Sixteen bytes that stand for all bytes so far: they take the register from 0 to where those take it.
 struct Window {
@@ -23,6 +26,30 @@ pub fn checksum(bytes: &[u8]) -> u16
         return rest(bytes, 0, 0xffff);
     }
     long(bytes)
+}
+
+// Whether n bytes stand at a place with their checksum behind them; not where they do not lie in the bytes.
+pub fn sealed(bytes: &[u8], at: usize, n: usize) -> bool
+    ensures { λ r. ⌜ SealedPromise (now (bytes .entry)) at n r ⌝ }
+{
+    if !lies_in(bytes, at, n) {
+        return false;
+    }
+    let end = at + n;
+    if !lies_in(bytes, end, 2) {
+        return false;
+    }
+    checksum(&bytes[at..end]) == word_at(bytes, end)
+}
+
+// Puts the checksum of the first n bytes behind them; nothing where it does not lie in the buffer.
+pub fn seal(buffer: &mut [u8], n: usize)
+    ensures { λ _. ⌜ SealPromise (now (buffer .entry)) n (now (buffer .exit)) ⌝ }
+{
+    if lies_in(buffer, n, 2) {
+        let sum = checksum(&buffer[..n]);
+        put_word(buffer, n, sum);
+    }
 }
 
 // The register after sixteen bytes and more, four bytes at a time.
