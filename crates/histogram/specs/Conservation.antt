@@ -10,7 +10,7 @@ use Rattle.ground.specs.Choice.{pick}
 use Rattle.ground.specs.Outcome.{refuse}
 use Rattle.ground.specs.Paper.{accepted}
 use Rattle.pages.specs.Layout.{placeOf, within}
-use Rattle.pages.specs.Meaning.{Walk, cellsOf, visitOf, walkOf, wordOf}
+use Rattle.pages.specs.Meaning.{Walk, cellsOf, visitOf, walkAt, walkOf, wordOf}
 use Rattle.histogram.specs.Meaning.{CallOutcome, done, lent, openMeans}
 use Rattle.histogram.specs.Outcomes.{call-elim, is-opened}
 use Rattle.histogram.specs.Runs.{Call, increment, flip, ask, Ledger, acceptedBy, callMeans, clearedBy, opening, run, step, total}
@@ -55,10 +55,10 @@ walk-keeps page w (x ∷ xs) = walk-keeps page (visitOf page false w x) xs
 
 -- what a walk from nothing leaves and hands out where it clears is what was there
 pub walk-conserves : (page clear : Bool) (m : List ℕ) (cells : List ℕ)
-    → total (walkOf page clear (record { memory = m; sum = 0 }) cells .memory) + pick clear (walkOf page clear (record { memory = m; sum = 0 }) cells .sum) 0
+    → total (walkOf page clear (walkAt m 0) cells .memory) + pick clear (walkOf page clear (walkAt m 0) cells .sum) 0
     ≡ total m + 0
-walk-conserves page true m cells = walk-clears page (record { memory = m; sum = 0 }) cells
-walk-conserves page false m cells = ap (λ (l : List ℕ). total l + 0) (walk-keeps page (record { memory = m; sum = 0 }) cells)
+walk-conserves page true m cells = walk-clears page (walkAt m 0) cells
+walk-conserves page false m cells = ap (λ (l : List ℕ). total l + 0) (walk-keeps page (walkAt m 0) cells)
 
 -- what one call keeps: the counts held and cleared grow by the increments accepted
 abbrev pub Conserves : List ℕ → Call → CallOutcome → Type 0

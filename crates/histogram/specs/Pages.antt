@@ -7,7 +7,7 @@ use Prim.Native.Nat.{ℕ, _+_, _/_, _<_}
 use lib.ListN.{length}
 use Rattle.ground.specs.Outcome.{refuse}
 use Rattle.ground.specs.Paper.{accepted, refused-not}
-use Rattle.pages.specs.Meaning.{cellsOf, wordOf}
+use Rattle.pages.specs.Meaning.{cellsOf, walkAt, wordOf}
 use Rattle.pages.specs.Walks.{cells-all-under, walk-leaves}
 use Rattle.pages.specs.Words.{put-same, put-other}
 use Rattle.pages.specs.declared.Window.{Window}
@@ -42,7 +42,7 @@ call-counters m w =
       others = λ q b j d. put-other m (pageIn w) q a b (wordOf m (pageIn w) a + 1) k j d;
     })
     (λ h. refl)
-    (λ h number v k t b j. walk-leaves (pageIn w) (v .clear) (record { memory = m; sum = 0 }) (cellsOf v) b (cells-all-under (length m / 2) v k) j)
+    (λ h number v k t b j. walk-leaves (pageIn w) (v .clear) (walkAt m 0) (cellsOf v) b (cells-all-under (length m / 2) v k) j)
     (λ h number sum v b j. refl)
 
 -- what an accepted increment leaves

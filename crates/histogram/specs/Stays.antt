@@ -7,7 +7,7 @@ use Prim.Native.Nat.{ℕ, _+_}
 use lib.ListN.{length, length-set}
 use Rattle.ground.specs.Questions.{both-ways}
 use Rattle.pages.specs.Layout.{placeOf}
-use Rattle.pages.specs.Meaning.{cellsOf, wordOf}
+use Rattle.pages.specs.Meaning.{cellsOf, walkAt, wordOf}
 use Rattle.pages.specs.Walks.{walk-length}
 use Rattle.histogram.specs.Meaning.{CallOutcome, admission}
 use Rattle.histogram.specs.Outcomes.{call-elim}
@@ -33,7 +33,7 @@ call-steady m w =
     })
     (λ h. record { long = refl; framed = flip-framed w (admits-long m w h); kept = λ e. flip-says w (admits-long m w h) .1 })
     (λ h number v k t. record {
-      long = walk-length (not (pageIn w)) (v .clear) (record { memory = m; sum = 0 }) (cellsOf v);
+      long = walk-length (not (pageIn w)) (v .clear) (walkAt m 0) (cellsOf v);
       framed = keep-framed w number v _ (admits-long m w h);
       kept = λ e. absurd (both-ways refl e);
     })

@@ -7,7 +7,7 @@ use Prim.Native.Nat.{ℕ, _/_, _≤_, _<_}
 use lib.ListN.{length}
 use borrow.Author.Tests.{lt-ltb, le-ltb}
 use Rattle.ground.specs.Paper.{Paper, accepted, refused, refused-not}
-use Rattle.pages.specs.Meaning.{Walk, cellsOf, checkMeans, lastOf, soundOf, takeMeans, walkTaken, windowWalk}
+use Rattle.pages.specs.Meaning.{cellsOf, checkMeans, lastOf, soundOf, takeMeans, walkAt, walkTaken, windowWalk}
 use Rattle.pages.specs.Answers.{checkedPaper, takenPaper}
 use Rattle.pages.specs.Outcomes.{check-elim}
 use Rattle.pages.specs.Promise.{CheckPromise, TakePromise}
@@ -50,6 +50,6 @@ not-taken m p w r e f = record { outcome = rw (e, f) }
 
 -- a sound window taken: walked, and its sum answered
 pub walked : (m : List ℕ) (p : Bool) (w : Window) (sum : ℕ) (after : List ℕ) → checkMeans m p w ≡ accepted tt
-    → _≡_ {A = Walk} (record { memory = after; sum = sum }) (windowWalk m p w) → TakePromise m p w (Taken.Sum sum) after
+    → walkAt after sum ≡ windowWalk m p w → TakePromise m p w (Taken.Sum sum) after
 unfolding takeMeans
 walked m p w sum after e f = record { outcome = rw e (ap walkTaken f) }
