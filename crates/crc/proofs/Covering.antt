@@ -27,8 +27,8 @@ module _ (bytes : List ℕ) (at n : ℕ) where
   no-word e = record { answer = rw (lt-leb (at + (n + 2)) (length bytes) (omega (arith, leb-false (at + n + 2) (length bytes) e))) }
 
   -- their checksum is held against the word after them
-  pub compared : {sum word : ℕ} → lies bytes (at + n) 2 ≡ true → sum ≡ checksumOf (take (at + n - at) (drop at bytes)) → WordPromise bytes (at + n) word
-      → SealedPromise bytes at n (eqb sum word)
+  pub compared : {sum word : ℕ} → lies bytes (at + n) 2 ≡ true → sum ≡ checksumOf (take (at + n - at) (drop at bytes))
+      → WordPromise bytes (at + n) word → SealedPromise bytes at n (eqb sum word)
   unfolding sealedAt
   compared e s w =
       let room : at + n + 2 ≤ length bytes = leb-true (at + n + 2) (length bytes) e in

@@ -1,5 +1,6 @@
 pub mod Meaning
 pub mod Laws
+pub mod Bytes
 pub mod Folding
 pub mod Promise
 pub mod OneOutcome

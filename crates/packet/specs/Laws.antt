@@ -8,7 +8,7 @@ use native.Mathlib.Numerals.{add-one}
 use native.Mathlib.Omega.{arith}
 use borrow.Author.Tests.{leb-true, ltb-true, le-leb, lt-ltb}
 use lib.Dec.{ltb}
-use lib.ListN.{length}
+use lib.ListN.{length, take, drop, length-take, length-drop}
 use Rattle.ground.specs.Questions.{both-hold}
 use Rattle.ground.specs.Choice.{pick-elim}
 use Rattle.ground.specs.Paper.{accepted, refusedWith}
@@ -53,6 +53,10 @@ stands-so l at s =
       lt-ltb (wordAt l (at + 4)) 8192 (s .most),
       s .sealed,
     )
+
+-- the data of a packet that stands has n bytes
+pub data-long : (l : List ℕ) (at : ℕ) → Standing l at → length (take (dataLength l at) (drop (at + 8) l)) ≡ dataLength l at
+data-long l at s = simp (length-take, length-drop) (omega (arith, s .whole))
 
 -- a place at which no packet stands is one failed place more
 pub failed-more : (l : List ℕ) (at : ℕ) → stands l at ≡ false → failedBefore l at ≡ at → failedBefore l (at + 1) ≡ at + 1
