@@ -2,7 +2,7 @@
 -- Assumes nothing.
 use mathlib.Core.Path.{_≡_, refl}
 use Prim.Native.Nat.{ℕ}
-use Rattle.ground.specs.Paper.{Paper, accepted, refused, refusedWith}
+use Rattle.ground.specs.Paper.{Paper, accepted, refusal, refused}
 use Rattle.cadence.specs.declared.Length.{Length}
 use Rattle.cadence.specs.declared.Length.the-variants.{Seconds}
 use Rattle.cadence.specs.declared.Level.{Level}
@@ -16,8 +16,7 @@ lengthPaper Length.OutOfRange = refused 19
 -- the answer that reads so
 abbrev pub lengthBack : Paper ℕ → Length
 lengthBack (accepted s) = Seconds s
-lengthBack (refused n) = Length.OutOfRange
-lengthBack (refusedWith n x) = Length.OutOfRange
+lengthBack (refusal n carried) = Length.OutOfRange
 
 -- an answer is the one that reads as it does
 pub length-home : (a : Length) → lengthBack (lengthPaper a) ≡ a
@@ -32,8 +31,7 @@ levelPaper Level.OutOfRange = refused 19
 -- the answer that reads so
 abbrev pub levelBack : Paper ℕ → Level
 levelBack (accepted l) = At l
-levelBack (refused n) = Level.OutOfRange
-levelBack (refusedWith n x) = Level.OutOfRange
+levelBack (refusal n carried) = Level.OutOfRange
 
 -- an answer is the one that reads as it does
 pub level-home : (a : Level) → levelBack (levelPaper a) ≡ a

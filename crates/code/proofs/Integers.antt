@@ -40,7 +40,7 @@ negative (negsuc n) t = (n, refl)
 -- a number that is not negative
 natural : (v : ℤ) → ltZ v (pos 0) ≡ false → (n : ℕ) × (v ≡ pos n)
 natural (pos n) t = (n, refl)
-natural (negsuc n) t = absurd (Rattle.code.specs.Shapes.false-true (sym t))
+natural (negsuc n) t = absurd (Rattle.ground.specs.Questions.both-ways refl t)
 
 -- nothing less a negative number is its magnitude
 less-negative : (n : ℕ) → pos 0 -ℤ negsuc n ≡ pos (suc n)

@@ -8,8 +8,8 @@ use lib.IntN.{ℤ, pos, negsuc, natAbs}
 use lib.ListN.{length}
 use lib.Dec.{leb}
 use Rattle.ground.specs.Choice.{pick}
-use Rattle.ground.specs.Paper.{accepted, refused}
-use Rattle.code.specs.Meaning.{codeOf, decoded, packMeans, packLeaves, dropTaken, largest, shapeOf, leadingIn, codeFits, bytesWith}
+use Rattle.ground.specs.Outcome.{refuse}
+use Rattle.code.specs.Meaning.{codeOf, decoded, packMeans, placeMeans, dropKnown, largest, shapeOf, leadingIn}
 
 -- zero and the largest magnitude of each sign, with each drop: bits of the code, and the number that it decodes to
 pub record EndsMean : Type 0 where
@@ -34,9 +34,8 @@ ends-mean =
     }
 
 -- writing a number refuses by 8 and leaves the buffer
-pub record Refuses (v : ℤ) : Type 0 where
-  pub answer : (buffer : List ℕ) (at d : ℕ) → packMeans buffer at v d ≡ refused 8
-  pub memory : (buffer : List ℕ) (at d : ℕ) → packLeaves buffer at v d ≡ buffer
+abbrev pub Refuses8 : ℤ → Type 0
+Refuses8 v = (buffer : List ℕ) (at d : ℕ) → packMeans buffer at v d ≡ refuse 8 buffer
 
 -- a test that fails fails with any other before it
 fails : (a b : Bool) → b ≡ false → (a && b) ≡ false
@@ -44,25 +43,18 @@ fails true b e = e
 fails false b e = refl
 
 -- a magnitude over the largest is outside the rule, whatever the drop
-pub refuses : (v : ℤ) → leb (natAbs v) largest ≡ false → Refuses v
-refuses v over =
-    record {
-      answer = λ buffer at d.
-          ap (λ (b : Bool). pick b (pick (codeFits buffer at v d) (accepted (at + length (codeOf d v))) (refused 3)) (refused 8))
-          (fails (dropTaken d) (leb (natAbs v) largest) over);
-      memory = λ buffer at d.
-          ap (λ (b : Bool). pick (b && codeFits buffer at v d) (bytesWith buffer at (codeOf d v)) buffer)
-          (fails (dropTaken d) (leb (natAbs v) largest) over);
-    }
+pub refuses : (v : ℤ) → leb (natAbs v) largest ≡ false → Refuses8 v
+refuses v over buffer at d =
+    ap (λ (b : Bool). pick b (placeMeans buffer at (codeOf d v)) (refuse 8 buffer)) (fails (dropKnown d) (leb (natAbs v) largest) over)
 
 -- just over the range
-pub refuses-over : Refuses (pos 33554432)
+pub refuses-over : Refuses8 (pos 33554432)
 refuses-over = refuses (pos 33554432) refl
 
 -- just under the range
-pub refuses-under : Refuses (negsuc 33554431)
+pub refuses-under : Refuses8 (negsuc 33554431)
 refuses-under = refuses (negsuc 33554431) refl
 
 -- the smallest i32
-pub refuses-smallest : Refuses (negsuc 2147483647)
+pub refuses-smallest : Refuses8 (negsuc 2147483647)
 refuses-smallest = refuses (negsuc 2147483647) refl

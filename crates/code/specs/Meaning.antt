@@ -8,12 +8,13 @@ use lib.ListN.{length, take, drop, replicate}
 use lib.Dec.{ltb, leb, eqb}
 use Rattle.ground.specs.Choice.{pick}
 use Rattle.ground.specs.Paper.{Paper, accepted, refused}
+use Rattle.ground.specs.Outcome.{Outcome, accept, refuse}
 use Rattle.ground.specs.Bits.{toBits, bitsOf}
 use Rattle.ground.specs.Putting.{put}
 
 -- "with drop 0 or 3"
-abbrev pub dropTaken : ℕ → Bool
-dropTaken d = pick (eqb d 0) true (eqb d 3)
+abbrev pub dropKnown : ℕ → Bool
+dropKnown d = pick (eqb d 0) true (eqb d 3)
 
 -- "|v| at most 33,554,431"
 abbrev pub largest : ℕ
@@ -177,41 +178,32 @@ parse d (suc b ∷ []) = ranOut
 parse d (suc b ∷ (s ∷ l)) = afterSign d s 0 l
 
 -- "Bits from position 2^63 on count as past the end": the bits that count
-unfoldable pub counted : List ℕ → List ℕ
-counted bytes = take (2 ^ 63) (bitsOf bytes)
+unfoldable pub bitsThatCount : List ℕ → List ℕ
+bitsThatCount bytes = take (2 ^ 63) (bitsOf bytes)
 
 -- what stands at a bit position of bytes
 abbrev pub parseAt : List ℕ → ℕ → ℕ → Parsed
-parseAt bytes at d = parse d (drop at (counted bytes))
+parseAt bytes at d = parse d (drop at (bitsThatCount bytes))
 
 -- an accepted reading: the number, and "the next position"
-pub record Taken : Type 0 where
+pub record UnpackValues : Type 0 where
   pub value : ℤ
   pub next : ℕ
 
 -- the answer to what was found at a position: 9, 10, 11 as bits arrive
-abbrev pub answerOf : ℕ → ℕ → Parsed → Paper Taken
+abbrev pub answerOf : ℕ → ℕ → Parsed → Paper UnpackValues
 answerOf d at (found shape rest) = accepted (record { value = value d shape; next = at + length (bits d shape) })
 answerOf d at ranOut = refused 9
 answerOf d at redundantZero = refused 10
 answerOf d at runTooLong = refused 11
 
 -- reading: "drop 8 first, then 9, 10, 11 as bits arrive"
-abbrev pub unpackMeans : List ℕ → ℕ → ℕ → Paper Taken
-unpackMeans bytes at d = pick (dropTaken d) (answerOf d at (parseAt bytes at d)) (refused 8)
+abbrev pub unpackMeans : List ℕ → ℕ → ℕ → Paper UnpackValues
+unpackMeans bytes at d = pick (dropKnown d) (answerOf d at (parseAt bytes at d)) (refused 8)
 
 -- a number and a drop inside the rule
 abbrev pub inRule : ℤ → ℕ → Bool
-inRule v d = dropTaken d && leb (natAbs v) largest
-
--- the code of a number lies between a position and the end
-abbrev pub codeFits : List ℕ → ℕ → ℤ → ℕ → Bool
-codeFits buffer at v d = leb (at + length (codeOf d v)) (length (counted buffer))
-
--- writing: "8 then 3", else the next position
-abbrev pub packMeans : List ℕ → ℕ → ℤ → ℕ → Paper ℕ
-packMeans buffer at v d =
-    pick (inRule v d) (pick (codeFits buffer at v d) (accepted (at + length (codeOf d v))) (refused 3)) (refused 8)
+inRule v d = dropKnown d && leb (natAbs v) largest
 
 -- how many bits there are from a position to the end of its byte; none where a byte ends there
 abbrev pub toByteEnd : ℕ → ℕ
@@ -234,7 +226,14 @@ bytesFrom (suc n) l = fromBits (take 8 l) ∷ bytesFrom n (drop 8 l)
 abbrev pub bytesWith : List ℕ → ℕ → List ℕ → List ℕ
 bytesWith buffer at code = bytesFrom (length buffer) (putAt (bitsOf buffer) at code)
 
--- what writing leaves: the code at its place, or on a refusal what was there
-abbrev pub packLeaves : List ℕ → ℕ → ℤ → ℕ → List ℕ
-packLeaves buffer at v d =
-    pick (inRule v d && codeFits buffer at v d) (bytesWith buffer at (codeOf d v)) buffer
+-- a code lies between a position and the end
+abbrev pub fitsAt : List ℕ → ℕ → List ℕ → Bool
+fitsAt buffer at code = leb (at + length code) (length (bitsThatCount buffer))
+
+-- "Writing puts a code at a bit position": the next position and the code at its place; 3 where it does not fit
+abbrev pub placeMeans : List ℕ → ℕ → List ℕ → Outcome ℕ (List ℕ)
+placeMeans buffer at code = pick (fitsAt buffer at code) (accept (at + length code) (bytesWith buffer at code)) (refuse 3 buffer)
+
+-- writing a number: "8 then 3", else its code is put
+abbrev pub packMeans : List ℕ → ℕ → ℤ → ℕ → Outcome ℕ (List ℕ)
+packMeans buffer at v d = pick (inRule v d) (placeMeans buffer at (codeOf d v)) (refuse 8 buffer)

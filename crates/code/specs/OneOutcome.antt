@@ -8,7 +8,8 @@ use lib.Dec.{leb}
 use lib.IntN.{ℤ, natAbs}
 use lib.ListN.{length}
 use Rattle.ground.specs.Paper.{numberOf, one-answer, one-value}
-use Rattle.code.specs.Meaning.{counted, dropTaken, largest}
+use Rattle.ground.specs.Outcome.{outcome-one}
+use Rattle.code.specs.Meaning.{bitsThatCount, dropKnown, largest}
 use Rattle.code.specs.Answers.{packedPaper, packedBack, packed-home, unpackedPaper, unpackedBack, unpacked-home}
 use Rattle.code.specs.Promise.{PackPromise, UnpackPromise, SignPromise}
 use Rattle.code.specs.declared.Packed.{Packed}
@@ -17,7 +18,7 @@ use Rattle.code.specs.declared.Unpacked.{Unpacked}
 -- writing has one outcome
 pub pack-one : {buffer : List ℕ} {at : ℕ} {v : ℤ} {d : ℕ} {r s : Packed} {a b : List ℕ}
     → PackPromise buffer at v d r a → PackPromise buffer at v d s b → (r ≡ s) × (a ≡ b)
-pack-one p q = (one-answer packedPaper packedBack packed-home (p .answer) (q .answer), one-value (p .memory) (q .memory))
+pack-one p q = outcome-one packedPaper packedBack packed-home (p .outcome) (q .outcome)
 
 -- reading has one outcome, by `unpack`, by a reader and by the call above them
 pub unpack-one : {bytes : List ℕ} {at d : ℕ} {r s : Unpacked} → UnpackPromise bytes at d r → UnpackPromise bytes at d s → r ≡ s
@@ -40,11 +41,11 @@ pub sign-one : (v : ℤ) {m n : ℕ} → SignPromise v m → SignPromise v n →
 sign-one v p q = one-value (p .answer) (q .answer)
 
 -- one answer to a drop
-pub drop-taken-one : (d : ℕ) {a b : Bool} → a ≡ dropTaken d → b ≡ dropTaken d → a ≡ b
-drop-taken-one d p q = one-value p q
+pub drop-known-one : (d : ℕ) {a b : Bool} → a ≡ dropKnown d → b ≡ dropKnown d → a ≡ b
+drop-known-one d p q = one-value p q
 
 -- one answer to a magnitude and a drop
-pub in-rule-one : (m d : ℕ) {a b : Bool} → a ≡ (dropTaken d && leb m largest) → b ≡ (dropTaken d && leb m largest) → a ≡ b
+pub in-rule-one : (m d : ℕ) {a b : Bool} → a ≡ (dropKnown d && leb m largest) → b ≡ (dropKnown d && leb m largest) → a ≡ b
 in-rule-one m d p q = one-value p q
 
 -- one number for a drop
@@ -52,5 +53,5 @@ pub wide-one : (d : ℕ) {m n : ℕ} → m ≡ d → n ≡ d → m ≡ n
 wide-one d p q = one-value p q
 
 -- one number of bits that count
-pub end-of-one : (bytes : List ℕ) {m n : ℕ} → m ≡ length (counted bytes) → n ≡ length (counted bytes) → m ≡ n
+pub end-of-one : (bytes : List ℕ) {m n : ℕ} → m ≡ length (bitsThatCount bytes) → n ≡ length (bitsThatCount bytes) → m ≡ n
 end-of-one bytes p q = one-value p q

@@ -10,18 +10,18 @@ use lib.Seq.{getD-take, getD-append-add, length-take-le}
 use lib.Dec.{ltb}
 use borrow.Author.Tests.{ltb-true, ltb-false}
 use Rattle.ground.specs.Bits.{toBits, bitsOf}
-use Rattle.code.specs.Meaning.{counted, fromBits, bytesFrom}
+use Rattle.code.specs.Meaning.{bitsThatCount, fromBits, bytesFrom}
 use Rattle.code.specs.BitLists.{allBits, allBits-take, allBits-drop, allBits-bitsOf, length-bitsOf, fromBits-toBits, toBits-fromBits}
 
 -- eight bits a byte count, but none from position 2^63 on
-pub length-counted : (bytes : List ℕ) → length (counted bytes) ≡ min (2 ^ 63) (8 * length bytes)
-unfolding counted
-length-counted bytes = length-take (2 ^ 63) (bitsOf bytes) ∙ ap (min (2 ^ 63)) (length-bitsOf bytes)
+pub length-bitsThatCount : (bytes : List ℕ) → length (bitsThatCount bytes) ≡ min (2 ^ 63) (8 * length bytes)
+unfolding bitsThatCount
+length-bitsThatCount bytes = length-take (2 ^ 63) (bitsOf bytes) ∙ ap (min (2 ^ 63)) (length-bitsOf bytes)
 
 -- what counts are bits
-pub allBits-counted : (bytes : List ℕ) → allBits (counted bytes)
-unfolding counted
-allBits-counted bytes = allBits-take (2 ^ 63) (bitsOf bytes) (allBits-bitsOf bytes)
+pub allBits-bitsThatCount : (bytes : List ℕ) → allBits (bitsThatCount bytes)
+unfolding bitsThatCount
+allBits-bitsThatCount bytes = allBits-take (2 ^ 63) (bitsOf bytes) (allBits-bitsOf bytes)
 
 -- a bit of a number
 pub getD-toBits : (w x k : ℕ) → k < w → getD (toBits w x) k 0 ≡ x / 2 ^ (w - 1 - k) % 2
@@ -58,16 +58,16 @@ getD-bitsOf (b ∷ bytes) i h = go (λ n k. getD-bitsOf bytes n k) (ltb i 8) ref
         ∙ ap₂ (λ (k m : ℕ). getD (b ∷ bytes) k 0 / 2 ^ (7 - m) % 2) q r
 
 -- a position that counts lies in a byte
-pub counted-inside : (bytes : List ℕ) (at : ℕ) → at < length (counted bytes) → at < 8 * length bytes
-counted-inside bytes at h = omega (arith, length-counted bytes)
+pub position-inside : (bytes : List ℕ) (at : ℕ) → at < length (bitsThatCount bytes) → at < 8 * length bytes
+position-inside bytes at h = omega (arith, length-bitsThatCount bytes)
 
 -- a bit that counts
-pub counted-bit : (bytes : List ℕ) (at : ℕ) → at < length (counted bytes)
-    → getD (counted bytes) at 0 ≡ getD bytes (at / 8) 0 / 2 ^ (7 - at % 8) % 2
-unfolding counted
-counted-bit bytes at h =
-    getD-take (2 ^ 63) (bitsOf bytes) at 0 (omega (arith, length-counted bytes))
-    ∙ getD-bitsOf bytes at (counted-inside bytes at h)
+pub bit-that-counts : (bytes : List ℕ) (at : ℕ) → at < length (bitsThatCount bytes)
+    → getD (bitsThatCount bytes) at 0 ≡ getD bytes (at / 8) 0 / 2 ^ (7 - at % 8) % 2
+unfolding bitsThatCount
+bit-that-counts bytes at h =
+    getD-take (2 ^ 63) (bitsOf bytes) at 0 (omega (arith, length-bitsThatCount bytes))
+    ∙ getD-bitsOf bytes at (position-inside bytes at h)
 
 -- the number of bits with one bit more
 pub fromBits-snoc : (l : List ℕ) (b : ℕ) → fromBits (l ++ (b ∷ [])) ≡ fromBits l * 2 + b

@@ -4,15 +4,15 @@ use mathlib.Core.Path.{_≡_}
 use mathlib.Core.List.{List}
 use Prim.Native.Nat.{ℕ, _<_}
 use lib.IntN.{ℤ}
-use Rattle.code.specs.Meaning.{packMeans, packLeaves, unpackMeans, signOf}
+use Rattle.ground.specs.Outcome.{outcomeOf}
+use Rattle.code.specs.Meaning.{packMeans, unpackMeans, signOf}
 use Rattle.code.specs.Answers.{packedPaper, unpackedPaper}
 use Rattle.code.specs.declared.Packed.{Packed}
 use Rattle.code.specs.declared.Unpacked.{Unpacked}
 
 -- writing answers what document 01 means, and leaves the code at its place or, on a refusal, what was there
 pub record PackPromise (buffer : List ℕ) (at : ℕ) (v : ℤ) (d : ℕ) (r : Packed) (after : List ℕ) : Type 0 where
-  pub answer : packedPaper r ≡ packMeans buffer at v d
-  pub memory : after ≡ packLeaves buffer at v d
+  pub outcome : outcomeOf (packedPaper r) after ≡ packMeans buffer at v d
 
 -- reading answers what document 01 means
 pub record UnpackPromise (bytes : List ℕ) (at d : ℕ) (r : Unpacked) : Type 0 where

@@ -9,16 +9,13 @@ use native.Mathlib.Omega.{arith}
 use lib.ListN.{length, length-append, take, drop, replicate, take-append-drop}
 use lib.Seq.{take-at, drop-at, length-take-le}
 use lib.Dec.{ltb, eqb}
-use borrow.Author.Tests.{lt-ltb, le-ltb, ltb-true, ltb-false, eq-eqb, ne-eqb, eqb-true, eqb-false}
+use borrow.Author.Tests.{lt-ltb, le-ltb, ltb-true, ltb-false, eq-eqb, ne-eqb, eqb-true}
 use Rattle.ground.specs.Choice.{pick, pick-elim}
+use Rattle.ground.specs.Questions.{both-ways}
 use Rattle.ground.specs.Bits.{toBits}
-use Rattle.code.specs.Meaning.{Shape, nought, small, mid, big, Parsed, found, ranOut, redundantZero, runTooLong, longestRun, dropTaken, bits}
+use Rattle.code.specs.Meaning.{Shape, nought, small, mid, big, Parsed, found, ranOut, redundantZero, runTooLong, longestRun, dropKnown, bits}
 use Rattle.code.specs.Meaning.{coded, parse, afterSign, afterRun, parityThen, unlessZero, field, fromBits}
 use Rattle.code.specs.BitLists.{allBits, allBits-take, length-toBits, fromBits-toBits, toBits-fromBits, fromBits-lt}
-
--- the two truth values differ
-pub false-true : false ≡ true → ⊥
-false-true e = eqb-false 0 0 (sym e) refl
 
 -- the two drops
 pub data Drop : ℕ → Type 0 where
@@ -26,18 +23,18 @@ pub data Drop : ℕ → Type 0 where
   three : Drop 3
 
 -- a drop that is taken is one of the two
-pub drop-of : (d : ℕ) → dropTaken d ≡ true → Drop d
+pub drop-of : (d : ℕ) → dropKnown d ≡ true → Drop d
 drop-of d t = go (eqb d 0) refl (eqb d 3) refl t
   where
     go : (a : Bool) → eqb d 0 ≡ a → (b : Bool) → eqb d 3 ≡ b → pick a true b ≡ true → Drop d
     go true e b f t = subst Drop (sym (eqb-true d 0 e)) none
     go false e true f t = subst Drop (sym (eqb-true d 3 f)) three
-    go false e false f t = absurd (false-true t)
+    go false e false f t = absurd (both-ways refl (sym t))
 
 -- both drops are taken
-pub drop-takes : {d : ℕ} → Drop d → dropTaken d ≡ true
-drop-takes none = refl
-drop-takes three = refl
+pub drop-is-known : {d : ℕ} → Drop d → dropKnown d ≡ true
+drop-is-known none = refl
+drop-is-known three = refl
 
 -- every code has a bit
 pub bits-some : (d : ℕ) (shape : Shape) → 1 ≤ length (bits d shape)
@@ -136,7 +133,7 @@ after-run-exact d s zero l hs h ok =
     (λ x rest hx e.
     pick-elim (Exact d (coded s 0 l)) (eqb d 0 && eqb x 0) redundantZero (found (small s x) rest)
     (λ t. tt)
-    (λ t. (ap (coded s 0) e, (hs, hx, λ p q. false-true (sym t ∙ both (eqb d 0) (eqb x 0) (eq-eqb d 0 p) (eq-eqb x 0 q))))))
+    (λ t. (ap (coded s 0) e, (hs, hx, λ p q. both-ways (both (eqb d 0) (eqb x 0) (eq-eqb d 0 p) (eq-eqb x 0 q)) t))))
 after-run-exact d s (suc zero) l hs h ok =
     field-elim (Exact d (coded s 1 l)) (3 - d) (mid s) l ok tt
     (λ x rest hx e. (ap (coded s 1) e, (hs, hx)))

@@ -3,23 +3,25 @@
 use mathlib.Core.Path.{_≡_, refl, sym, ap, ap₂, _∙_, subst}
 use mathlib.Core.Bool.{Bool, true, false, _&&_}
 use mathlib.Core.List.{List, [], _∷_, _++_, append-assoc, map}
-use Prim.Native.Nat.{ℕ, zero, suc, _+_, _-_, _^_, _≤_}
+use Prim.Native.Nat.{ℕ, zero, suc, _+_, _-_, _^_, _<_, _≤_}
 use native.Mathlib.Omega.{arith}
 use lib.IntN.{ℤ, natAbs}
 use lib.ListN.{length, length-append, length-take, length-drop, take, drop, replicate, length-replicate, take-append-drop}
 use lib.Seq.{take-take, take-at, drop-at, length-take-le}
 use lib.Dec.{leb}
 use borrow.Author.Tests.{le-leb, leb-true}
-use Rattle.ground.specs.Choice.{pick}
-use Rattle.ground.specs.Paper.{Paper, accepted, refused}
+use Rattle.ground.specs.Choice.{pick, pick-elim}
+use Rattle.ground.specs.Questions.{both-hold}
+use Rattle.ground.specs.Paper.{Paper, accepted, refused, refused-not, accepted-same}
+use Rattle.ground.specs.Outcome.{Outcome, accept, refuse, Stays}
 use Rattle.ground.specs.Bits.{toBits, bitsOf}
 use Rattle.ground.specs.Putting.{length-put}
-use Rattle.code.specs.Meaning.{Shape, nought, small, mid, big, Parsed, found, ranOut, redundantZero, runTooLong, Taken, bits, value, sign}
-use Rattle.code.specs.Meaning.{magnitude, shapeOfNumber, codeOf, decoded, counted, parse, parseAt, answerOf, unpackMeans, inRule, codeFits}
-use Rattle.code.specs.Meaning.{packMeans, packLeaves, putAt, padded, toByteEnd, bytesWith, dropTaken, largest}
+use Rattle.code.specs.Meaning.{Shape, nought, small, mid, big, Parsed, found, ranOut, redundantZero, runTooLong, UnpackValues, bits, value, sign}
+use Rattle.code.specs.Meaning.{magnitude, shapeOfNumber, codeOf, decoded, bitsThatCount, parse, parseAt, answerOf, unpackMeans, inRule}
+use Rattle.code.specs.Meaning.{packMeans, placeMeans, fitsAt, putAt, padded, toByteEnd, bytesWith, dropKnown, largest}
 use Rattle.code.specs.BitLists.{allBits, allBits-append, allBits-take, allBits-drop, allBits-toBits, allBits-bitsOf, length-bitsOf}
-use Rattle.code.specs.Positions.{length-counted, allBits-counted, bits-back, length-bytesFrom}
-use Rattle.code.specs.Shapes.{Drop, drop-of, Valid, parse-bits, found-exact, false-true}
+use Rattle.code.specs.Positions.{length-bitsThatCount, allBits-bitsThatCount, bits-back, length-bytesFrom}
+use Rattle.code.specs.Shapes.{Drop, drop-of, Valid, parse-bits, found-exact}
 use Rattle.code.specs.Magnitudes.{shape-of-value, number-valid, magnitude-fits, magnitude-positive, sign-bit, signed-back}
 
 -- so many bits of bytes, from a position on
@@ -36,108 +38,90 @@ part-of-take n (suc at) (suc end) [] h = refl
 part-of-take n (suc at) (suc end) (b ∷ l) h = part-of-take n at end l (omega arith)
 
 -- the same of the bits that count
-counted-part : (bytes : List ℕ) (at n : ℕ) → at + n ≤ length (counted bytes) → take n (drop at (counted bytes)) ≡ bitsAt bytes at n
-unfolding counted
-counted-part bytes at n h = part-of-take n at (2 ^ 63) (bitsOf bytes) (omega (arith, length-take (2 ^ 63) (bitsOf bytes)))
+part-that-counts : (bytes : List ℕ) (at n : ℕ) → at + n ≤ length (bitsThatCount bytes) → take n (drop at (bitsThatCount bytes)) ≡ bitsAt bytes at n
+unfolding bitsThatCount
+part-that-counts bytes at n h = part-of-take n at (2 ^ 63) (bitsOf bytes) (omega (arith, length-take (2 ^ 63) (bitsOf bytes)))
 
 -- where a shape's bits stand in bytes, that shape is read
-pub reads-shape : (bytes : List ℕ) (at d : ℕ) (shape : Shape) → Valid d shape → at + length (bits d shape) ≤ length (counted bytes)
+pub reads-shape : (bytes : List ℕ) (at d : ℕ) (shape : Shape) → Valid d shape → at + length (bits d shape) ≤ length (bitsThatCount bytes)
     → bitsAt bytes at (length (bits d shape)) ≡ bits d shape
-    → parseAt bytes at d ≡ found shape (drop (length (bits d shape)) (drop at (counted bytes)))
+    → parseAt bytes at d ≡ found shape (drop (length (bits d shape)) (drop at (bitsThatCount bytes)))
 reads-shape bytes at d shape v h e =
     let n : ℕ = length (bits d shape) in
     ap (parse d)
-    (sym (take-append-drop n (drop at (counted bytes)))
-    ∙ ap (λ (k : List ℕ). k ++ drop n (drop at (counted bytes))) (counted-part bytes at n h ∙ e))
-    ∙ parse-bits d shape (drop n (drop at (counted bytes))) v
+    (sym (take-append-drop n (drop at (bitsThatCount bytes)))
+    ∙ ap (λ (k : List ℕ). k ++ drop n (drop at (bitsThatCount bytes))) (part-that-counts bytes at n h ∙ e))
+    ∙ parse-bits d shape (drop n (drop at (bitsThatCount bytes))) v
 
 -- and its value and the position after it are answered
-pub unpacks-shape : (bytes : List ℕ) (at d : ℕ) (shape : Shape) → dropTaken d ≡ true → Valid d shape
-    → at + length (bits d shape) ≤ length (counted bytes) → bitsAt bytes at (length (bits d shape)) ≡ bits d shape
+pub unpacks-shape : (bytes : List ℕ) (at d : ℕ) (shape : Shape) → dropKnown d ≡ true → Valid d shape
+    → at + length (bits d shape) ≤ length (bitsThatCount bytes) → bitsAt bytes at (length (bits d shape)) ≡ bits d shape
     → unpackMeans bytes at d ≡ accepted (record { value = value d shape; next = at + length (bits d shape) })
 unpacks-shape bytes at d shape t v h e =
     ap (λ (b : Bool). pick b (answerOf d at (parseAt bytes at d)) (refused 8)) t ∙ ap (answerOf d at) (reads-shape bytes at d shape v h e)
 
 -- what was read at a position: a shape, whose bits stand there
-pub record ReadAt (bytes : List ℕ) (at d : ℕ) (t : Taken) : Type 0 where
+pub record ReadAt (bytes : List ℕ) (at d : ℕ) (t : UnpackValues) : Type 0 where
   pub shape : Shape
   pub rest : List ℕ
   pub parsed : parseAt bytes at d ≡ found shape rest
-  pub taken : dropTaken d ≡ true
+  pub known : dropKnown d ≡ true
   pub valid : Valid d shape
   pub number : t .value ≡ value d shape
   pub after : t .next ≡ at + length (bits d shape)
-  pub inside : t .next ≤ length (counted bytes)
+  pub inside : t .next ≤ length (bitsThatCount bytes)
   pub stands : bitsAt bytes at (length (bits d shape)) ≡ bits d shape
 
--- two answers that are accepted answer the same
-accepted-same : {a b : Taken} → _≡_ {A = Paper Taken} (accepted a) (accepted b) → a ≡ b
-accepted-same {a} e = ap (out a) e
-  where
-    out : Taken → Paper Taken → Taken
-    out z (accepted x) = x
-    out z (refused n) = z
-    out z (Rattle.ground.specs.Paper.refusedWith n x) = z
-
--- an accepted answer is no refusal
-not-refused : {A : Type 0} {n : ℕ} {a : A} → _≡_ {A = Paper A} (refused n) (accepted a) → ⊥
-not-refused {A} e = false-true (ap test e)
-  where
-    test : Paper A → Bool
-    test (accepted x) = true
-    test (refused n) = false
-    test (Rattle.ground.specs.Paper.refusedWith n x) = false
-
 -- an accepted reading read a shape
-pub read-at : (bytes : List ℕ) (at d : ℕ) {t : Taken} → unpackMeans bytes at d ≡ accepted t → ReadAt bytes at d t
-read-at bytes at d {t} e = by-drop (dropTaken d) refl e
+pub read-at : (bytes : List ℕ) (at d : ℕ) {t : UnpackValues} → unpackMeans bytes at d ≡ accepted t → ReadAt bytes at d t
+read-at bytes at d {t} e = by-drop (dropKnown d) refl e
   where
-    by-shape : (q : Parsed) → parseAt bytes at d ≡ q → dropTaken d ≡ true → answerOf d at q ≡ accepted t → ReadAt bytes at d t
+    by-shape : (q : Parsed) → parseAt bytes at d ≡ q → dropKnown d ≡ true → answerOf d at q ≡ accepted t → ReadAt bytes at d t
     by-shape (found shape rest) p k e =
-        let x = found-exact d (drop at (counted bytes)) (allBits-drop at (counted bytes) (allBits-counted bytes)) p in
+        let x = found-exact d (drop at (bitsThatCount bytes)) (allBits-drop at (bitsThatCount bytes) (allBits-bitsThatCount bytes)) p in
         let n : ℕ = length (bits d shape) in
         let same : record { value = value d shape; next = at + n } ≡ t = accepted-same e in
-        let long : length (drop at (counted bytes)) ≡ n + length rest = ap length (x .0) ∙ length-append (bits d shape) rest in
-        let room : at + n ≤ length (counted bytes) = omega (arith, length-drop at (counted bytes), Rattle.code.specs.Shapes.bits-some d shape) in
+        let long : length (drop at (bitsThatCount bytes)) ≡ n + length rest = ap length (x .0) ∙ length-append (bits d shape) rest in
+        let room : at + n ≤ length (bitsThatCount bytes) = omega (arith, length-drop at (bitsThatCount bytes), Rattle.code.specs.Shapes.bits-some d shape) in
         record {
           shape = shape;
           rest = rest;
           parsed = p;
-          taken = k;
+          known = k;
           valid = x .1;
-          number = ap (λ (u : Taken). u .value) (sym same);
-          after = ap (λ (u : Taken). u .next) (sym same);
-          inside = subst (λ (m : ℕ). m ≤ length (counted bytes)) (ap (λ (u : Taken). u .next) same) room;
-          stands = sym (counted-part bytes at n room) ∙ ap (take n) (x .0) ∙ take-at (bits d shape) rest n refl;
+          number = ap (λ (u : UnpackValues). u .value) (sym same);
+          after = ap (λ (u : UnpackValues). u .next) (sym same);
+          inside = subst (λ (m : ℕ). m ≤ length (bitsThatCount bytes)) (ap (λ (u : UnpackValues). u .next) same) room;
+          stands = sym (part-that-counts bytes at n room) ∙ ap (take n) (x .0) ∙ take-at (bits d shape) rest n refl;
         }
-    by-shape ranOut p k e = absurd (not-refused e)
-    by-shape redundantZero p k e = absurd (not-refused e)
-    by-shape runTooLong p k e = absurd (not-refused e)
+    by-shape ranOut p k e = absurd (refused-not e)
+    by-shape redundantZero p k e = absurd (refused-not e)
+    by-shape runTooLong p k e = absurd (refused-not e)
 
-    by-drop : (b : Bool) → dropTaken d ≡ b → pick b (answerOf d at (parseAt bytes at d)) (refused 8) ≡ accepted t → ReadAt bytes at d t
+    by-drop : (b : Bool) → dropKnown d ≡ b → pick b (answerOf d at (parseAt bytes at d)) (refused 8) ≡ accepted t → ReadAt bytes at d t
     by-drop true k e = by-shape (parseAt bytes at d) refl k e
-    by-drop false k e = absurd (not-refused e)
+    by-drop false k e = absurd (refused-not e)
 
 -- the number that was read has the shape that was read
-pub read-shape : {bytes : List ℕ} {at d : ℕ} {t : Taken} (r : ReadAt bytes at d t) → shapeOfNumber d (t .value) ≡ r .shape
-read-shape {d = d} r = ap (shapeOfNumber d) (r .number) ∙ shape-of-value d (r .shape) (drop-of d (r .taken)) (r .valid)
+pub read-shape : {bytes : List ℕ} {at d : ℕ} {t : UnpackValues} (r : ReadAt bytes at d t) → shapeOfNumber d (t .value) ≡ r .shape
+read-shape {d = d} r = ap (shapeOfNumber d) (r .number) ∙ shape-of-value d (r .shape) (drop-of d (r .known)) (r .valid)
 
 -- ---- codes that are put into bytes
 
 -- a code with the rest of its last byte has room where the code has
-padded-room : (buffer : List ℕ) (at : ℕ) (code : List ℕ) → at + length code ≤ length (counted buffer)
+padded-room : (buffer : List ℕ) (at : ℕ) (code : List ℕ) → at + length code ≤ length (bitsThatCount buffer)
     → at + length (padded at code) ≤ length (bitsOf buffer)
 padded-room buffer at code h =
     let long : length (padded at code) ≡ length code + toByteEnd (at + length code)
     = length-append code (replicate (toByteEnd (at + length code)) 0) ∙ ap (λ (n : ℕ). length code + n) (length-replicate (toByteEnd (at + length code)) 0) in
-    omega (arith, length-counted buffer, length-bitsOf buffer)
+    omega (arith, length-bitsThatCount buffer, length-bitsOf buffer)
 
 -- zeros are bits
 allBits-zeros : (n : ℕ) → allBits (replicate n 0)
 allBits-zeros zero = tt
 allBits-zeros (suc n) = (omega arith, allBits-zeros n)
 
-module _ (buffer : List ℕ) (at : ℕ) (code : List ℕ) (room : at + length code ≤ length (counted buffer)) (fine : allBits code) where
+module _ (buffer : List ℕ) (at : ℕ) (code : List ℕ) (room : at + length code ≤ length (bitsThatCount buffer)) (fine : allBits code) where
   -- the bits that a put code leaves
   pub put-bits : bitsOf (bytesWith buffer at code) ≡ putAt (bitsOf buffer) at code
   put-bits =
@@ -182,47 +166,62 @@ module _ (buffer : List ℕ) (at : ℕ) (code : List ℕ) (room : at + length co
       ∙ take-at code (zeros ++ drop (at + length new) old) (length code) refl
 
   -- as many bits count as before
-  pub put-counts : length (counted (bytesWith buffer at code)) ≡ length (counted buffer)
+  pub put-counts : length (bitsThatCount (bytesWith buffer at code)) ≡ length (bitsThatCount buffer)
   put-counts =
       let same : length (bytesWith buffer at code) ≡ length buffer = length-bytesFrom (length buffer) (putAt (bitsOf buffer) at code) in
-      omega (arith, length-counted (bytesWith buffer at code), length-counted buffer)
+      omega (arith, length-bitsThatCount (bytesWith buffer at code), length-bitsThatCount buffer)
 
 -- a number that was packed: inside the rule, with room, and its code put
-pub record PackedAt (buffer : List ℕ) (at : ℕ) (v : ℤ) (d n : ℕ) : Type 0 where
-  pub taken : dropTaken d ≡ true
+pub record PackedAt (buffer : List ℕ) (at : ℕ) (v : ℤ) (d n : ℕ) (left : List ℕ) : Type 0 where
+  pub known : dropKnown d ≡ true
   pub small : natAbs v ≤ largest
-  pub room : at + length (codeOf d v) ≤ length (counted buffer)
+  pub room : at + length (codeOf d v) ≤ length (bitsThatCount buffer)
   pub after : n ≡ at + length (codeOf d v)
-  pub leaves : packLeaves buffer at v d ≡ bytesWith buffer at (codeOf d v)
+  pub leaves : left ≡ bytesWith buffer at (codeOf d v)
 
 -- a number inside the rule, with room, is packed
-pub packs : (buffer : List ℕ) (at : ℕ) (v : ℤ) (d : ℕ) → dropTaken d ≡ true → natAbs v ≤ largest → at + length (codeOf d v) ≤ length (counted buffer)
-    → (packMeans buffer at v d ≡ accepted (at + length (codeOf d v))) × (packLeaves buffer at v d ≡ bytesWith buffer at (codeOf d v))
+pub packs : (buffer : List ℕ) (at : ℕ) (v : ℤ) (d : ℕ) → dropKnown d ≡ true → natAbs v ≤ largest → at + length (codeOf d v) ≤ length (bitsThatCount buffer)
+    → packMeans buffer at v d ≡ accept (at + length (codeOf d v)) (bytesWith buffer at (codeOf d v))
 packs buffer at v d t h room =
-    let rule : inRule v d ≡ true = ap₂ (λ (a b : Bool). a && b) t (le-leb (natAbs v) largest h) in
-    let fits : codeFits buffer at v d ≡ true = le-leb (at + length (codeOf d v)) (length (counted buffer)) room in (
-      ap₂ (λ (a b : Bool). pick a (pick b (accepted (at + length (codeOf d v))) (refused 3)) (refused 8)) rule fits,
-      ap₂ (λ (a b : Bool). pick (a && b) (bytesWith buffer at (codeOf d v)) buffer) rule fits,
-    )
+    ap₂ (λ (a b : Bool). pick a (pick b (accept (at + length (codeOf d v)) (bytesWith buffer at (codeOf d v))) (refuse 3 buffer)) (refuse 8 buffer))
+    (ap₂ (λ (a b : Bool). a && b) t (le-leb (natAbs v) largest h))
+    (le-leb (at + length (codeOf d v)) (length (bitsThatCount buffer)) room)
+
+-- what is shown of each outcome of writing: packed, or refused with the buffer as it was
+pub pack-elim : (buffer : List ℕ) (at : ℕ) (v : ℤ) (d : ℕ) (P : Outcome ℕ (List ℕ) → Type 0)
+    → ((n : ℕ) (left : List ℕ) → PackedAt buffer at v d n left → P (accept n left)) → ((n : ℕ) → 0 < n → P (refuse n buffer))
+    → P (packMeans buffer at v d)
+pack-elim buffer at v d P packed none =
+    pick-elim P (inRule v d) (placeMeans buffer at (codeOf d v)) (refuse 8 buffer)
+    (λ rule.
+    let both = both-hold {a = dropKnown d} {b = leb (natAbs v) largest} rule in
+    pick-elim P (fitsAt buffer at (codeOf d v)) (accept (at + length (codeOf d v)) (bytesWith buffer at (codeOf d v))) (refuse 3 buffer)
+    (λ fits.
+    packed (at + length (codeOf d v)) (bytesWith buffer at (codeOf d v))
+    (record {
+      known = both .0;
+      small = leb-true (natAbs v) largest (both .1);
+      room = leb-true (at + length (codeOf d v)) (length (bitsThatCount buffer)) fits;
+      after = refl;
+      leaves = refl;
+    }))
+    (λ short. none 3 (omega arith)))
+    (λ outside. none 8 (omega arith))
 
 -- an accepted writing packed the number
-pub packed-at : (buffer : List ℕ) (at : ℕ) (v : ℤ) (d : ℕ) {n : ℕ} → packMeans buffer at v d ≡ accepted n → PackedAt buffer at v d n
-packed-at buffer at v d {n} e = go (dropTaken d) refl (leb (natAbs v) largest) refl (codeFits buffer at v d) refl e
-  where
-    out : Paper ℕ → ℕ
-    out (accepted x) = x
-    out (refused n) = 0
-    out (Rattle.ground.specs.Paper.refusedWith n x) = 0
+pub packed-at : (buffer : List ℕ) (at : ℕ) (v : ℤ) (d : ℕ) {n : ℕ} {left : List ℕ} → packMeans buffer at v d ≡ accept n left → PackedAt buffer at v d n left
+packed-at buffer at v d {n} {left} e =
+    pack-elim buffer at v d (λ (o : Outcome ℕ (List ℕ)). o ≡ accept n left → PackedAt buffer at v d n left)
+    (λ m k p f.
+    let same : m ≡ n = accepted-same (ap (λ (o : Outcome ℕ (List ℕ)). o .answer) f) in
+    let kept : k ≡ left = ap (λ (o : Outcome ℕ (List ℕ)). o .leaves) f in
+    record { known = p .known; small = p .small; room = p .room; after = sym same ∙ p .after; leaves = sym kept ∙ p .leaves })
+    (λ m h f. absurd (refused-not (ap (λ (o : Outcome ℕ (List ℕ)). o .answer) f)))
+    e
 
-    go : (a : Bool) → dropTaken d ≡ a → (b : Bool) → leb (natAbs v) largest ≡ b → (c : Bool) → codeFits buffer at v d ≡ c
-        → pick (a && b) (pick c (accepted (at + length (codeOf d v))) (refused 3)) (refused 8) ≡ accepted n → PackedAt buffer at v d n
-    go true ta true tb true tc e =
-        let h : natAbs v ≤ largest = leb-true (natAbs v) largest tb in
-        let room : at + length (codeOf d v) ≤ length (counted buffer) = leb-true (at + length (codeOf d v)) (length (counted buffer)) tc in
-        record { taken = ta; small = h; room = room; after = sym (ap out e); leaves = packs buffer at v d ta h room .1 }
-    go true ta true tb false tc e = absurd (not-refused e)
-    go true ta false tb c tc e = absurd (not-refused e)
-    go false ta b tb c tc e = absurd (not-refused e)
+-- demand 1 of writing: a refusal leaves the buffer as it was
+pub pack-stays : (buffer : List ℕ) (at : ℕ) (v : ℤ) (d : ℕ) → Stays buffer (packMeans buffer at v d)
+pack-stays buffer at v d = pack-elim buffer at v d (Stays buffer) (λ n left p f. absurd (f refl)) (λ n h f. refl)
 
 -- the bits of a shape are bits
 pub allBits-shape : (d : ℕ) (shape : Shape) → Valid d shape → allBits (bits d shape)
@@ -245,42 +244,46 @@ allBits-shape d (big s ones p x) v = (
 -- ---- the theorems
 
 -- "each accepted code, decoded, packs again to the same bits": in any buffer with room, at the same position, with the same next position
-pub record SameBits (bytes buffer : List ℕ) (at d : ℕ) (t : Taken) : Type 0 where
-  pub answer : packMeans buffer at (t .value) d ≡ accepted (t .next)
-  pub same : bitsAt (packLeaves buffer at (t .value) d) at (t .next - at) ≡ bitsAt bytes at (t .next - at)
+pub record SameBits (bytes buffer : List ℕ) (at d : ℕ) (t : UnpackValues) : Type 0 where
+  pub left : List ℕ
+  pub packed : packMeans buffer at (t .value) d ≡ accept (t .next) left
+  pub same : bitsAt left at (t .next - at) ≡ bitsAt bytes at (t .next - at)
 
 -- and they do
-pub same-bits : (bytes buffer : List ℕ) (at d : ℕ) {t : Taken} → unpackMeans bytes at d ≡ accepted t → t .next ≤ length (counted buffer)
+pub same-bits : (bytes buffer : List ℕ) (at d : ℕ) {t : UnpackValues} → unpackMeans bytes at d ≡ accepted t → t .next ≤ length (bitsThatCount buffer)
     → SameBits bytes buffer at d t
 same-bits bytes buffer at d {t} e room =
     let r = read-at bytes at d e in
     let shape : Shape = r .shape in
-    let dr : Drop d = drop-of d (r .taken) in
+    let dr : Drop d = drop-of d (r .known) in
     let code : codeOf d (t .value) ≡ bits d shape = ap (codeOf d) (r .number) ∙ ap (bits d) (shape-of-value d shape dr (r .valid)) in
     let back = signed-back (sign shape) (magnitude d shape) (sign-bit d shape (r .valid)) (magnitude-positive d shape dr (r .valid)) in
     let fits : natAbs (t .value) ≤ largest
     = subst (λ (n : ℕ). n ≤ largest) (sym (ap natAbs (r .number) ∙ back .1)) (magnitude-fits d shape dr (r .valid)) in
     let long : length (codeOf d (t .value)) ≡ length (bits d shape) = ap length code in
-    let p = packs buffer at (t .value) d (r .taken) fits (omega (arith, r .after)) in
+    let next-is : at + length (codeOf d (t .value)) ≡ t .next = omega (arith, r .after) in
     let n-is : t .next - at ≡ length (bits d shape) = omega (arith, r .after) in
     record {
-      answer = p .0 ∙ ap accepted (omega (arith, r .after));
+      left = bytesWith buffer at (codeOf d (t .value));
+      packed =
+          packs buffer at (t .value) d (r .known) fits (omega (arith, r .after))
+          ∙ ap (λ (n : ℕ). accept n (bytesWith buffer at (codeOf d (t .value)))) next-is;
       same =
-          ap₂ (λ (k : List ℕ) (n : ℕ). bitsAt k at n) (p .1 ∙ ap (bytesWith buffer at) code) n-is
+          ap₂ (λ (k : List ℕ) (n : ℕ). bitsAt k at n) (ap (bytesWith buffer at) code) n-is
           ∙ put-stands buffer at (bits d shape) (omega (arith, r .after)) (allBits-shape d shape (r .valid))
           ∙ sym (r .stands)
           ∙ ap (bitsAt bytes at) (sym n-is);
     }
 
 -- "what pack wrote unpack reads, with the same next position, as the decoded number"
-pub reads-back : (buffer : List ℕ) (at : ℕ) (v : ℤ) (d : ℕ) {n : ℕ} → packMeans buffer at v d ≡ accepted n
-    → unpackMeans (packLeaves buffer at v d) at d ≡ accepted (record { value = decoded d v; next = n })
-reads-back buffer at v d {n} e =
+pub reads-back : (buffer : List ℕ) (at : ℕ) (v : ℤ) (d : ℕ) {n : ℕ} {left : List ℕ} → packMeans buffer at v d ≡ accept n left
+    → unpackMeans left at d ≡ accepted (record { value = decoded d v; next = n })
+reads-back buffer at v d {n} {left} e =
     let p = packed-at buffer at v d e in
-    let valid = number-valid d v (drop-of d (p .taken)) (p .small) in
+    let valid = number-valid d v (drop-of d (p .known)) (p .small) in
     let fine = allBits-shape d (shapeOfNumber d v) valid in
     ap (λ (k : List ℕ). unpackMeans k at d) (p .leaves)
-    ∙ unpacks-shape (bytesWith buffer at (codeOf d v)) at d (shapeOfNumber d v) (p .taken) valid
+    ∙ unpacks-shape (bytesWith buffer at (codeOf d v)) at d (shapeOfNumber d v) (p .known) valid
     (omega (arith, p .room, put-counts buffer at (codeOf d v) (p .room) fine))
     (put-stands buffer at (codeOf d v) (p .room) fine)
     ∙ ap (λ (m : ℕ). accepted (record { value = decoded d v; next = m })) (sym (p .after))
@@ -288,8 +291,8 @@ reads-back buffer at v d {n} e =
 -- numbers written one after the other, each at the position that the last answered
 pub data Wrote (d : ℕ) : List ℕ → ℕ → List ℤ → List ℕ → ℕ → Type 0 where
   none : {buffer : List ℕ} {at : ℕ} → Wrote d buffer at [] buffer at
-  next : {buffer last : List ℕ} {at after end : ℕ} {v : ℤ} {vs : List ℤ}
-      → packMeans buffer at v d ≡ accepted after → Wrote d (packLeaves buffer at v d) after vs last end → Wrote d buffer at (v ∷ vs) last end
+  next : {buffer left last : List ℕ} {at after end : ℕ} {v : ℤ} {vs : List ℤ}
+      → packMeans buffer at v d ≡ accept after left → Wrote d left after vs last end → Wrote d buffer at (v ∷ vs) last end
 
 -- numbers read one after the other, each at the position that the last answered
 pub data ReadRun (d : ℕ) (bytes : List ℕ) : ℕ → List ℤ → ℕ → Type 0 where
@@ -300,7 +303,7 @@ pub data ReadRun (d : ℕ) (bytes : List ℕ) : ℕ → List ℤ → ℕ → Typ
 -- what a run of writings keeps: the bits before it, and how many bits count
 pub record Keeps (buffer last : List ℕ) (at : ℕ) : Type 0 where
   pub before : take at (bitsOf last) ≡ take at (bitsOf buffer)
-  pub counts : length (counted last) ≡ length (counted buffer)
+  pub counts : length (bitsThatCount last) ≡ length (bitsThatCount buffer)
 
 -- bits before an earlier position are kept where those before a later one are
 keeps-earlier : (buffer last : List ℕ) (at after : ℕ) → at ≤ after → take after (bitsOf last) ≡ take after (bitsOf buffer)
@@ -308,22 +311,22 @@ keeps-earlier : (buffer last : List ℕ) (at after : ℕ) → at ≤ after → t
 keeps-earlier buffer last at after h e = sym (take-take at after (bitsOf last) h) ∙ ap (take at) e ∙ take-take at after (bitsOf buffer) h
 
 -- one writing
-pack-keeps : (buffer : List ℕ) (at : ℕ) (v : ℤ) (d : ℕ) {n : ℕ} → packMeans buffer at v d ≡ accepted n → Keeps buffer (packLeaves buffer at v d) at
+pack-keeps : (buffer : List ℕ) (at : ℕ) (v : ℤ) (d : ℕ) {n : ℕ} {left : List ℕ} → packMeans buffer at v d ≡ accept n left → Keeps buffer left at
 pack-keeps buffer at v d e =
     let p = packed-at buffer at v d e in
-    let fine = allBits-shape d (shapeOfNumber d v) (number-valid d v (drop-of d (p .taken)) (p .small)) in
+    let fine = allBits-shape d (shapeOfNumber d v) (number-valid d v (drop-of d (p .known)) (p .small)) in
     subst (λ (k : List ℕ). Keeps buffer k at) (sym (p .leaves))
     (record { before = put-keeps buffer at (codeOf d v) (p .room) fine; counts = put-counts buffer at (codeOf d v) (p .room) fine })
 
 -- a run of writings
 pub wrote-keeps : {d : ℕ} {buffer last : List ℕ} {at end : ℕ} {vs : List ℤ} → Wrote d buffer at vs last end → Keeps buffer last at
 wrote-keeps none = record { before = refl; counts = refl }
-wrote-keeps {d} (next {buffer = buffer} {last = last} {at = at} {after = after} {v = v} e w) =
+wrote-keeps {d} (next {buffer = buffer} {left = left} {last = last} {at = at} {after = after} {v = v} e w) =
     let one = pack-keeps buffer at v d e in
     let rest = wrote-keeps w in
     let later : at ≤ after = omega (arith, packed-at buffer at v d e .after) in
     record {
-      before = keeps-earlier (packLeaves buffer at v d) last at after later (rest .before) ∙ one .before;
+      before = keeps-earlier left last at after later (rest .before) ∙ one .before;
       counts = rest .counts ∙ one .counts;
     }
 
@@ -338,21 +341,21 @@ kept-at one two at n e =
 pub run-reads-back : {d : ℕ} {buffer last : List ℕ} {at end : ℕ} {vs : List ℤ} → Wrote d buffer at vs last end
     → ReadRun d last at (map (decoded d) vs) end
 run-reads-back none = none
-run-reads-back {d} (next {buffer = buffer} {last = last} {at = at} {after = after} {v = v} e w) =
+run-reads-back {d} (next {buffer = buffer} {left = left} {last = last} {at = at} {after = after} {v = v} e w) =
     next (first e (wrote-keeps w)) (run-reads-back w)
   where
-    first : packMeans buffer at v d ≡ accepted after → Keeps (packLeaves buffer at v d) last after
+    first : packMeans buffer at v d ≡ accept after left → Keeps left last after
         → unpackMeans last at d ≡ accepted (record { value = decoded d v; next = after })
     first e keeps =
         let p = packed-at buffer at v d e in
-        let valid = number-valid d v (drop-of d (p .taken)) (p .small) in
+        let valid = number-valid d v (drop-of d (p .known)) (p .small) in
         let fine = allBits-shape d (shapeOfNumber d v) valid in
         let n : ℕ = length (codeOf d v) in
         let same : take (at + n) (bitsOf last) ≡ take (at + n) (bitsOf (bytesWith buffer at (codeOf d v)))
-        = subst (λ (m : ℕ). take m (bitsOf last) ≡ take m (bitsOf (packLeaves buffer at v d))) (p .after) (keeps .before)
+        = subst (λ (m : ℕ). take m (bitsOf last) ≡ take m (bitsOf left)) (p .after) (keeps .before)
         ∙ ap (λ (k : List ℕ). take (at + n) (bitsOf k)) (p .leaves) in
-        let many : length (counted last) ≡ length (counted buffer)
-        = keeps .counts ∙ ap (λ (k : List ℕ). length (counted k)) (p .leaves) ∙ put-counts buffer at (codeOf d v) (p .room) fine in
-        unpacks-shape last at d (shapeOfNumber d v) (p .taken) valid (omega (arith, p .room, many))
+        let many : length (bitsThatCount last) ≡ length (bitsThatCount buffer)
+        = keeps .counts ∙ ap (λ (k : List ℕ). length (bitsThatCount k)) (p .leaves) ∙ put-counts buffer at (codeOf d v) (p .room) fine in
+        unpacks-shape last at d (shapeOfNumber d v) (p .known) valid (omega (arith, p .room, many))
         (kept-at (bytesWith buffer at (codeOf d v)) last at n same ∙ put-stands buffer at (codeOf d v) (p .room) fine)
         ∙ ap (λ (m : ℕ). accepted (record { value = decoded d v; next = m })) (sym (p .after))

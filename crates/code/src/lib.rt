@@ -5,7 +5,7 @@ ghost use lib.Dec.{leb};
 ghost use lib.IntN.{natAbs};
 ghost use lib.ListN.{length};
 ghost use Rattle.ground.specs.Paper.{numberOf};
-ghost use Rattle.code.specs.Meaning.{counted, dropTaken, largest};
+ghost use Rattle.code.specs.Meaning.{bitsThatCount, dropKnown, largest};
 ghost use Rattle.code.specs.Answers.{packedPaper, unpackedPaper};
 ghost use Rattle.code.specs.Promise.{SignPromise};
 
@@ -68,17 +68,17 @@ pub fn sign(v: i32) -> u32
 }
 
 // Only drop 0 and drop 3 are taken.
-pub fn drop_taken(drop: u8) -> bool
-    ensures { λ r. ⌜ r ≡ dropTaken drop ⌝ }
+pub fn drop_known(drop: u8) -> bool
+    ensures { λ r. ⌜ r ≡ dropKnown drop ⌝ }
 {
     if drop == 0 { true } else { drop == 3 }
 }
 
 // A magnitude and a drop inside the rule.
 pub fn in_rule(m: u32, drop: u8) -> bool
-    ensures { λ r. ⌜ r ≡ (dropTaken drop && leb m largest) ⌝ }
+    ensures { λ r. ⌜ r ≡ (dropKnown drop && leb m largest) ⌝ }
 {
-    if drop_taken(drop) {
+    if drop_known(drop) {
         m <= LARGEST
     } else {
         false
@@ -94,7 +94,7 @@ pub fn wide(drop: u8) -> u32
 
 // How many bits count: eight a byte, and none from position 2^63 on.
 pub fn end_of(bytes: &[u8]) -> u64
-    ensures { λ r. ⌜ r ≡ length (counted (now (bytes .entry))) ⌝ }
+    ensures { λ r. ⌜ r ≡ length (bitsThatCount (now (bytes .entry))) ⌝ }
 {
     let n = bytes.len() as u64;
     if n < 1152921504606846976 {

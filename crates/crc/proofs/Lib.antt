@@ -4,3 +4,4 @@ pub mod Root
 pub mod Sixteen
 pub mod Folds
 pub mod Reading
+pub mod Covering

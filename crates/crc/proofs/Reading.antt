@@ -1,4 +1,4 @@
--- Bytes read two and four at once, and the window of the first sixteen.
+-- Bytes read two and four at once, and the fold of the first sixteen.
 -- Assumes nothing.
 use mathlib.Core.Path.{_≡_, sym, ap, ap₂, _∙_}
 use mathlib.Core.List.{List}
@@ -12,9 +12,9 @@ use lib.Bits.{bitXor}
 use lib.ListN.{length, drop, getD, drop-of-length-le}
 use lib.Seq.{drop-cons}
 use Rattle.crc.specs.Meaning.{step, run}
-use Rattle.crc.specs.Folding.{sixteen, taken, stand, Pair, Word}
+use Rattle.crc.specs.Folding.{sixteen, afterWord, afterFour, Pair, Word}
 use Rattle.crc.proofs.Sixteen.{sixteen-lt, two-steps}
-use Rattle.crc.proofs.Folds.{taken-lt, stand-lt}
+use Rattle.crc.proofs.Folds.{afterWord-lt, afterFour-lt}
 
 -- the register takes the next byte
 pub run-next : (r : ℕ) (l : List ℕ) (i : ℕ) → i < length l → run r (drop i l) ≡ run (step r (getD l i 0)) (drop (i + 1) l)
@@ -51,7 +51,7 @@ pair-goes l i x y h ex ey hx hy =
 
 -- the word of two numbers takes a register where their bytes take it
 pub word-goes : (l : List ℕ) (i p q : ℕ) → Pair l i p → Pair l (i + 2) q → Word l i (p * 65536 + q)
-unfolding taken
+unfolding afterWord
 word-goes l i p q hp hq =
     let up : p < 2 ^ 16 = hp .small in
     let down : q < 2 ^ 16 = hq .small in
@@ -65,33 +65,33 @@ word-goes l i p q hp hq =
           (add-assoc i 2 2);
     }
 
--- the window of the first sixteen bytes
-pub opens : (l : List ℕ) (a b c d f : ℕ) → Word l 0 a → taken 0 f ≡ taken 0xffff a → Word l 4 b → Word l 8 c → Word l 12 d
-    → run (stand f b c d) (drop 16 l) ≡ run 0xffff l
-unfolding stand
+-- the fold of the first sixteen bytes
+pub opens : (l : List ℕ) (a b c d f : ℕ) → Word l 0 a → afterWord 0 f ≡ afterWord 0xffff a → Word l 4 b → Word l 8 c → Word l 12 d
+    → run (afterFour f b c d) (drop 16 l) ≡ run 0xffff l
+unfolding afterFour
 opens l a b c d f ha e hb hc hd =
-    ap (λ (r : ℕ). run (taken (taken (taken r b) c) d) (drop 16 l)) e
+    ap (λ (r : ℕ). run (afterWord (afterWord (afterWord r b) c) d) (drop 16 l)) e
     ∙ sym
     (ha .goes 0xffff (lit< tt)
-    ∙ hb .goes (taken 0xffff a) (taken-lt 0xffff a)
-    ∙ hc .goes (taken (taken 0xffff a) b) (taken-lt (taken 0xffff a) b)
-    ∙ hd .goes (taken (taken (taken 0xffff a) b) c) (taken-lt (taken (taken 0xffff a) b) c))
+    ∙ hb .goes (afterWord 0xffff a) (afterWord-lt 0xffff a)
+    ∙ hc .goes (afterWord (afterWord 0xffff a) b) (afterWord-lt (afterWord 0xffff a) b)
+    ∙ hd .goes (afterWord (afterWord (afterWord 0xffff a) b) c) (afterWord-lt (afterWord (afterWord 0xffff a) b) c))
 
--- the window one word further
-pub goes-on : (l : List ℕ) (i w s a b c d r : ℕ) → Word l i w → s ≡ taken (stand a b c d) w → run (stand a b c d) (drop i l) ≡ r
+-- the fold one word further
+pub goes-on : (l : List ℕ) (i w s a b c d r : ℕ) → Word l i w → s ≡ afterWord (afterFour a b c d) w → run (afterFour a b c d) (drop i l) ≡ r
     → run s (drop (i + 4) l) ≡ r
 goes-on l i w s a b c d r h e inv =
-    ap (λ (x : ℕ). run x (drop (i + 4) l)) e ∙ sym (h .goes (stand a b c d) (stand-lt a b c d)) ∙ inv
+    ap (λ (x : ℕ). run x (drop (i + 4) l)) e ∙ sym (h .goes (afterFour a b c d) (afterFour-lt a b c d)) ∙ inv
 
--- the register after the bytes that a window stands for
-pub closes : (a b c d p q r s : ℕ) → p ≡ taken 0 a → q ≡ taken p b → r ≡ taken q c → s ≡ taken r d → s ≡ stand a b c d
-unfolding stand
+-- the register after the bytes that a fold stands for
+pub closes : (a b c d p q r s : ℕ) → p ≡ afterWord 0 a → q ≡ afterWord p b → r ≡ afterWord q c → s ≡ afterWord r d → s ≡ afterFour a b c d
+unfolding afterFour
 closes a b c d p q r s ep eq er es =
-    es ∙ ap (λ (x : ℕ). taken x d) (er ∙ ap (λ (x : ℕ). taken x c) (eq ∙ ap (λ (x : ℕ). taken x b) ep))
+    es ∙ ap (λ (x : ℕ). afterWord x d) (er ∙ ap (λ (x : ℕ). afterWord x c) (eq ∙ ap (λ (x : ℕ). afterWord x b) ep))
 
 -- the register after a word, by its halves
 pub goes-through : (r w h l p q : ℕ) → h ≡ w / 2 ^ 16 → p ≡ sixteen (bitXor r h) → l ≡ w % 2 ^ 16 → q ≡ sixteen (bitXor p l)
-    → q ≡ taken r w
-unfolding taken
+    → q ≡ afterWord r w
+unfolding afterWord
 goes-through r w h l p q eh ep el eq =
     eq ∙ ap₂ (λ (x y : ℕ). sixteen (bitXor x y)) (ep ∙ ap (λ (x : ℕ). sixteen (bitXor r x)) eh) el

@@ -4,11 +4,14 @@ ghost use Prim.Native.Nat.{_+_, _*_, _/_, _%_, _^_, _<_, _≤_};
 ghost use lib.Bits.{bitXor};
 ghost use lib.ListN.{length, drop};
 ghost use Rattle.crc.specs.Meaning.{step, run};
-ghost use Rattle.crc.specs.Promise.{ChecksumPromise};
-ghost use Rattle.crc.specs.Folding.{sixteen, carryOf, spreadOf, taken, stand, Pair, Word};
+ghost use Rattle.crc.specs.Promise.{ChecksumPromise, SealedPromise, SealPromise};
+ghost use Rattle.crc.specs.Folding.{sixteen, carryOf, spreadOf, afterWord, registerOf, Pair, Word};
+use ground::lies_in;
+use ground::put_word;
+use ground::word_at;
 
 // Sixteen bytes that stand for all bytes so far: they take the register from 0 to where those take it.
-struct Window {
+struct Fold {
     first: u32,
     second: u32,
     third: u32,
@@ -25,18 +28,42 @@ pub fn checksum(bytes: &[u8]) -> u16
     long(bytes)
 }
 
+// Whether n bytes stand at a place with their checksum behind them; not where they do not lie in the bytes.
+pub fn sealed(bytes: &[u8], at: usize, n: usize) -> bool
+    ensures { λ r. ⌜ SealedPromise (now (bytes .entry)) at n r ⌝ }
+{
+    if !lies_in(bytes, at, n) {
+        return false;
+    }
+    let end = at + n;
+    if !lies_in(bytes, end, 2) {
+        return false;
+    }
+    checksum(&bytes[at..end]) == word_at(bytes, end)
+}
+
+// Puts the checksum of the first n bytes behind them; nothing where it does not lie in the buffer.
+pub fn seal(buffer: &mut [u8], n: usize)
+    ensures { λ _. ⌜ SealPromise (now (buffer .entry)) n (now (buffer .exit)) ⌝ }
+{
+    if lies_in(buffer, n, 2) {
+        let sum = checksum(&buffer[..n]);
+        put_word(buffer, n, sum);
+    }
+}
+
 // The register after sixteen bytes and more, four bytes at a time.
 fn long(bytes: &[u8]) -> u16
     requires { ⌜ 16 ≤ length (now bytes) ⌝ }
     ensures { λ r. ⌜ r ≡ run 0xffff (now (bytes .entry)) ⌝ }
 {
-    let mut window = opened(bytes);
+    let mut fold = opened(bytes);
     let mut i = 16;
     while 4 <= bytes.len() - i {
-        window = folded(window, word(bytes, i));
+        fold = folded(fold, word(bytes, i));
         i += 4;
     }
-    rest(bytes, i, closed(window))
+    rest(bytes, i, closed(fold))
 }
 
 // The register after the bytes from a place on, two at a time and then a last one.
@@ -73,12 +100,12 @@ fn last(bytes: &[u8], at: usize, register: u16) -> u16
     }
 }
 
-// The window of the first sixteen bytes, the register's start added to the first two.
-fn opened(bytes: &[u8]) -> Window
+// The fold of the first sixteen bytes, the register's start added to the first two.
+fn opened(bytes: &[u8]) -> Fold
     requires { ⌜ 16 ≤ length (now bytes) ⌝ }
-    ensures { λ r. ⌜ run (stand (r .first) (r .second) (r .third) (r .fourth)) (drop 16 (now (bytes .entry))) ≡ run 0xffff (now (bytes .entry)) ⌝ }
+    ensures { λ r. ⌜ run (registerOf r) (drop 16 (now (bytes .entry))) ≡ run 0xffff (now (bytes .entry)) ⌝ }
 {
-    Window {
+    Fold {
         first: started(word(bytes, 0)),
         second: word(bytes, 4),
         third: word(bytes, 8),
@@ -88,20 +115,20 @@ fn opened(bytes: &[u8]) -> Window
 
 // The first word with the register's start.
 fn started(word: u32) -> u32
-    ensures { λ r. ⌜ taken 0 r ≡ taken 0xffff word ⌝ }
+    ensures { λ r. ⌜ afterWord 0 r ≡ afterWord 0xffff word ⌝ }
 {
     word ^ 0xffff0000
 }
 
-// The window one word further: its first word moves to the places that the polynomial's eighth power names.
-fn folded(window: Window, word: u32) -> Window
-    ensures { λ r. ⌜ stand (r .first) (r .second) (r .third) (r .fourth) ≡ taken (stand (window .first) (window .second) (window .third) (window .fourth)) word ⌝ }
+// The fold one word further: its first word moves to the places that the polynomial's eighth power names.
+fn folded(fold: Fold, word: u32) -> Fold
+    ensures { λ r. ⌜ registerOf r ≡ afterWord (registerOf fold) word ⌝ }
 {
-    Window {
-        first: window.second ^ window.first,
-        second: window.third ^ top(window.first),
-        third: window.fourth ^ below_top(window.first),
-        fourth: word ^ window.first,
+    Fold {
+        first: fold.second ^ fold.first,
+        second: fold.third ^ top(fold.first),
+        third: fold.fourth ^ below_top(fold.first),
+        fourth: word ^ fold.first,
     }
 }
 
@@ -119,19 +146,19 @@ fn below_top(word: u32) -> u32
     word % 0x1000000 * 256
 }
 
-// The register after the bytes that a window stands for.
-fn closed(window: Window) -> u16
-    ensures { λ r. ⌜ r ≡ stand (window .first) (window .second) (window .third) (window .fourth) ⌝ }
+// The register after the bytes that a fold stands for.
+fn closed(fold: Fold) -> u16
+    ensures { λ r. ⌜ r ≡ registerOf fold ⌝ }
 {
-    let first = through(0, window.first);
-    let second = through(first, window.second);
-    let third = through(second, window.third);
-    through(third, window.fourth)
+    let first = through(0, fold.first);
+    let second = through(first, fold.second);
+    let third = through(second, fold.third);
+    through(third, fold.fourth)
 }
 
 // The register after the four bytes of a word.
 fn through(register: u16, word: u32) -> u16
-    ensures { λ r. ⌜ r ≡ taken register word ⌝ }
+    ensures { λ r. ⌜ r ≡ afterWord register word ⌝ }
 {
     let half = shifted(register ^ high(word));
     shifted(half ^ low(word))
@@ -189,7 +216,7 @@ fn upper(register: u16) -> u16
     register / 256
 }
 
-// The register after sixteen bits. Turn by turn: with all that falls out taken at once the compiler uses vectors, and is slower.
+// The register after sixteen bits. Turn by turn: with all that falls out at once the compiler uses vectors, and is slower.
 fn shifted(register: u16) -> u16
     ensures { λ r. ⌜ r ≡ sixteen register ⌝ }
 {

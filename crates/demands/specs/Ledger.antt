@@ -5,7 +5,8 @@ use mathlib.Core.List.{List, _∷_, _++_}
 use Prim.Native.Nat.{ℕ, _+_}
 use Rattle.ground.specs.Paper.{accepted}
 use Rattle.pages.specs.declared.Window.{Window}
-use Rattle.histogram.specs.Meaning.{openMeans, outcomeOf, done, new, again}
+use Rattle.ground.specs.Outcome.{accept}
+use Rattle.histogram.specs.Meaning.{openMeans, lent, done, new, again}
 use Rattle.histogram.specs.Runs.{Call, ask, opening, answered, step, run, total, NoNew}
 use Rattle.histogram.specs.Conservation.{conservation}
 use Rattle.histogram.specs.Repeat.{repeat-from-opening}
@@ -22,7 +23,7 @@ pub nothing-twice : (memory state : List ℕ) (earlier later : List Call) (numbe
     → answered (run (opening memory state) earlier) (ask number window) .answer ≡ accepted (new sum)
     → NoNew (step (run (opening memory state) earlier) (ask number window)) later
     → answered (run (opening memory state) (earlier ++ (ask number window ∷ later))) (ask number window)
-    ≡ outcomeOf (accepted (again sum))
-    (run (opening memory state) (earlier ++ (ask number window ∷ later)) .memory)
-    (run (opening memory state) (earlier ++ (ask number window ∷ later)) .state)
+    ≡ accept (again sum)
+    (lent (run (opening memory state) (earlier ++ (ask number window ∷ later)) .memory)
+    (run (opening memory state) (earlier ++ (ask number window ∷ later)) .state))
 nothing-twice memory state earlier later number sum window a n = repeat-from-opening memory state earlier later number sum window a n

@@ -2,8 +2,8 @@
 -- every public call of every crate, two outcomes that meet its promise are equal. The theorems themselves, under the call's name.
 -- Assumes nothing.
 
--- the checksum
-pub use Rattle.crc.specs.OneOutcome.{checksum-one}
+-- the checksum, and bytes sealed by it
+pub use Rattle.crc.specs.OneOutcome.{checksum-one, sealed-one, seal-one}
 -- 16-bit words
 pub use Rattle.ground.specs.OneOutcome.{lies-one, word-one, put-one}
 -- packets
@@ -14,7 +14,7 @@ pub use Rattle.message.specs.OneOutcome.{read-one as message-read-one, write-on
 pub use Rattle.message.specs.OneOutcome.{written-number-one as message-written-number-one}
 -- packed codes: pack; unpack, and a reader's next_code and read_at; magnitude; sign; the small questions that both ask
 pub use Rattle.code.specs.OneOutcome.{pack-one, unpack-one, magnitude-one, sign-one, packed-number-one, unpacked-number-one}
-pub use Rattle.code.specs.OneOutcome.{drop-taken-one, in-rule-one, wide-one, end-of-one}
+pub use Rattle.code.specs.OneOutcome.{drop-known-one, in-rule-one, wide-one, end-of-one}
 -- the reader: reader_at and moved_to
 pub use Rattle.reader.specs.OneOutcome.{reader-one}
 -- plain formats
@@ -23,7 +23,7 @@ pub use Rattle.format.specs.OneOutcome.{code16-number-one, code8-number-one, co
 -- the cadence
 pub use Rattle.cadence.specs.OneOutcome.{seconds-one, beginning-one, ending-one, length-number-one, level-number-one}
 -- readings and rates
-pub use Rattle.rate.specs.OneOutcome.{reading-one, rate-one, counted-number-one, rated-number-one, refusal-number-one}
+pub use Rattle.rate.specs.OneOutcome.{reading-one, rate-one, reading-number-one, rate-number-one, refusal-number-one}
 -- two pages of counters
 pub use Rattle.pages.specs.OneOutcome.{sized-one, clear-one, count-one, take-one}
 -- histogram memory

@@ -4,33 +4,28 @@ use mathlib.Core.Path.{_≡_, sym, ap, _∙_, subst}
 use mathlib.Core.List.{List, [], append-nil}
 use Prim.Native.Nat.{ℕ, _+_, _^_, _<_, _≤_}
 use denote.Ref.{RefT}
-use lib.ListN.{length, length-append, drop, take}
+use lib.ListN.{length, drop, take}
 use lib.Seq.{take-at}
 use native.Mathlib.Omega.{arith}
-use Rattle.ground.specs.Paper.{accepted, one-answer}
-use Rattle.ground.specs.Words.{bytesOf}
-use Rattle.crc.specs.Meaning.{checksumOf}
+use Rattle.ground.specs.Paper.{Paper, accepted, one-answer}
+use Rattle.ground.specs.Outcome.{outcomeOf}
 use Rattle.packet.specs.declared.Found.{Found}
 use Rattle.packet.specs.declared.Found.the-variants as F
 use Rattle.packet.specs.declared.Headed.{Headed}
 use Rattle.packet.specs.declared.Headed.the-variants as H
 use Rattle.packet.specs.declared.Written.{Written}
 use Rattle.packet.specs.Answers.{foundPaper, foundBack, found-home, headedPaper, headedBack, headed-home, writtenPaper}
-use Rattle.packet.specs.Meaning.{covered, packetOf, payloadMeans}
+use Rattle.packet.specs.Meaning.{packetOf, payloadMeans}
 use Rattle.packet.specs.Promise.{FindPromise, HeaderPromise, PayloadPromise, WritePromise}
-use Rattle.packet.specs.ReadBack.{written, written-found, written-header, written-payload, write-accepted}
+use Rattle.packet.specs.ReadBack.{packet-length, written, written-found, written-header, written-payload, write-accepted}
 use Rattle.message.specs.declared.MessageRead.{MessageRead}
 use Rattle.message.specs.declared.MessageRead.the-variants as M
 use Rattle.message.specs.declared.MessageWritten.{MessageWritten}
 use Rattle.message.specs.Answers.{readPaper, readBack, read-home}
 use Rattle.message.specs.Answers as message
+use Rattle.message.specs.Meaning.{dataSize}
 use Rattle.message.specs.Promise as messages
 use Rattle.message.specs.ReadBack as reads
-
--- a packet has n+10 bytes
-packet-length : (apid : ℕ) (payload : List ℕ) → length (packetOf apid payload) ≡ length payload + 10
-unfolding packetOf
-packet-length apid payload = omega (arith, length-append payload (bytesOf 2 (checksumOf (covered apid payload))))
 
 -- what the calls answer on a buffer that a packet was written into
 pub record PacketAgain (apid : ℕ) (payload after : List ℕ) : Type 0 where
@@ -57,17 +52,17 @@ packet-again apid payload rest capture is small a fits =
 pub packet-reads-back : (buffer payload after : List ℕ) (apid n : ℕ) (w : Written) → apid < 2 ^ 16 → length after ≤ 65536
     → WritePromise buffer apid payload w after → writtenPaper w ≡ accepted n → PacketAgain apid payload after
 packet-reads-back buffer payload after apid n w a fits p e =
-    let so = write-accepted buffer apid payload (sym (p .answer) ∙ e) in
-    packet-again apid payload (drop (length payload + 10) buffer) after (p .memory ∙ so .leaves) (so .small) a fits
+    let so = write-accepted buffer apid payload (ap (λ (x : Paper ℕ). outcomeOf x after) (sym e) ∙ p .outcome) in
+    packet-again apid payload (drop (length payload + 10) buffer) after (so .leaves) (so .small) a fits
 
 -- "It answers n+10, and those bytes read back as the packet": those bytes alone, whatever the buffer's length
 pub packet-bytes-read-back : (buffer payload after : List ℕ) (apid n : ℕ) (w : Written) → apid < 2 ^ 16
     → WritePromise buffer apid payload w after → writtenPaper w ≡ accepted n → PacketAgain apid payload (take n after)
 packet-bytes-read-back buffer payload after apid n w a p e =
-    let so = write-accepted buffer apid payload (sym (p .answer) ∙ e) in
+    let so = write-accepted buffer apid payload (ap (λ (x : Paper ℕ). outcomeOf x after) (sym e) ∙ p .outcome) in
     let long : length (packetOf apid payload) ≡ n = packet-length apid payload ∙ sym (so .count) in
     let is : take n after ≡ packetOf apid payload
-    = ap (take n) (p .memory ∙ so .leaves) ∙ take-at (packetOf apid payload) (drop (length payload + 10) buffer) n long in
+    = ap (take n) (so .leaves) ∙ take-at (packetOf apid payload) (drop (length payload + 10) buffer) n long in
     packet-again apid payload [] (take n after) (is ∙ sym (append-nil (packetOf apid payload))) (so .small) a
     (let same : length (take n after) ≡ n = ap length is ∙ long in omega (arith, same, so .count, so .small))
 
@@ -76,9 +71,7 @@ pub message-reads-back : (buffer after : List ℕ) (address tag value n : ℕ) (
     → messages.WritePromise buffer address tag value w after → message.writtenPaper w ≡ accepted n → messages.ReadPromise after r
     → r ≡ M.Message address tag value n
 message-reads-back buffer after address tag value n w r p e q =
-    let so = reads.write-accepted buffer address tag value (sym (p .answer) ∙ e) in
-    let rest = drop (Rattle.message.specs.Meaning.dataSize tag + 6) buffer in
-    let is : after ≡ reads.written address tag value rest = p .memory ∙ so .leaves in
-    one-answer readPaper readBack read-home (subst (λ (l : List ℕ). messages.ReadPromise l r) is q .answer)
+    let so = reads.write-accepted buffer address tag value (ap (λ (x : Paper ℕ). outcomeOf x after) (sym e) ∙ p .outcome) in
+    one-answer readPaper readBack read-home (subst (λ (l : List ℕ). messages.ReadPromise l r) (so .leaves) q .answer)
     (ap (λ (k : ℕ). accepted (record { address = address; tag = tag; value = value; used = k })) (so .count)
-    ∙ sym (reads.written-read address tag value rest (so .near) (so .known) (so .bits)))
+    ∙ sym (reads.written-read address tag value (drop (dataSize tag + 6) buffer) (so .inside)))

@@ -7,7 +7,7 @@ use Prim.Native.Nat.{ℕ}
 use lib.Dec.{eqb}
 use lib.IntN.{ℤ, pos, negsuc, natAbs}
 use lib.ListN.{length}
-use Rattle.ground.specs.Paper.{Paper, accepted, refused, refusedWith}
+use Rattle.ground.specs.Paper.{Paper, accepted, refusal}
 use Rattle.code.specs.Meaning.{codeOf, decoded, packMeans, signOf, leadingIn, shapeOf}
 use Rattle.format.specs.Meaning.{codeMeans, floatValue}
 use Rattle.cadence.specs.Meaning.{beginningMeans, endingMeans}
@@ -40,21 +40,19 @@ sameNumber a b = eqb (signOf a) (signOf b) && eqb (natAbs a) (natAbs b)
 -- the paper says this number
 abbrev pub says : Paper ℕ → ℕ → Bool
 says (accepted n) m = eqb n m
-says (refused n) m = false
-says (refusedWith n x) m = false
+says (refusal n carried) m = false
 
 -- the paper refuses by this number
 abbrev pub refuses : Paper ℕ → ℕ → Bool
 refuses (accepted n) m = false
-refuses (refused n) m = eqb n m
-refuses (refusedWith n x) m = eqb n m
+refuses (refusal n carried) m = eqb n m
 
 -- what it means that a case holds, by the definitions of the crates
 abbrev pub holds : Case → Bool
 holds (packs drop v bits) = sameList (codeOf drop v) bits
 holds (decodes drop v w) = sameNumber (decoded drop v) w
 holds (packsTo drop v n) = eqb (length (codeOf drop v)) n
-holds (refusesNumber drop v n) = refuses (packMeans (0 ∷ 0 ∷ 0 ∷ 0 ∷ []) 0 v drop) n
+holds (refusesNumber drop v n) = refuses (packMeans (0 ∷ 0 ∷ 0 ∷ 0 ∷ []) 0 v drop .answer) n
 holds (float16 count code) = says (codeMeans 12 134217728 count) code
 holds (float8 count code) = says (codeMeans 3 17179869184 count) code
 holds (float8Means code count) = eqb (floatValue 3 code) count

@@ -2,7 +2,7 @@
 -- Assumes nothing.
 use mathlib.Core.Path.{_≡_, refl}
 use Prim.Native.Nat.{ℕ}
-use Rattle.ground.specs.Paper.{Paper, accepted, refused, refusedWith}
+use Rattle.ground.specs.Paper.{Paper, accepted, refusal, refused}
 use Rattle.format.specs.declared.Code16.{Code16}
 use Rattle.format.specs.declared.Code8.{Code8}
 use Rattle.format.specs.declared.Code24.{Code24}
@@ -16,8 +16,7 @@ code16Paper Code16.TooLarge = refused 12
 -- the answer that reads so
 abbrev pub code16Back : Paper ℕ → Code16
 code16Back (accepted x) = Code16.Code x
-code16Back (refused n) = Code16.TooLarge
-code16Back (refusedWith n x) = Code16.TooLarge
+code16Back (refusal n carried) = Code16.TooLarge
 
 -- an answer is the one that reads as it does
 pub code16-home : (a : Code16) → code16Back (code16Paper a) ≡ a
@@ -32,8 +31,7 @@ code8Paper Code8.TooLarge = refused 12
 -- the answer that reads so
 abbrev pub code8Back : Paper ℕ → Code8
 code8Back (accepted x) = Code8.Code x
-code8Back (refused n) = Code8.TooLarge
-code8Back (refusedWith n x) = Code8.TooLarge
+code8Back (refusal n carried) = Code8.TooLarge
 
 -- an answer is the one that reads as it does
 pub code8-home : (a : Code8) → code8Back (code8Paper a) ≡ a
@@ -48,8 +46,7 @@ code24Paper Code24.TooLarge = refused 12
 -- the answer that reads so
 abbrev pub code24Back : Paper ℕ → Code24
 code24Back (accepted x) = Code24.Code x
-code24Back (refused n) = Code24.TooLarge
-code24Back (refusedWith n x) = Code24.TooLarge
+code24Back (refusal n carried) = Code24.TooLarge
 
 -- an answer is the one that reads as it does
 pub code24-home : (a : Code24) → code24Back (code24Paper a) ≡ a
@@ -64,8 +61,7 @@ count24Paper Count24.TooLarge = refused 12
 -- the answer that reads so
 abbrev pub count24Back : Paper ℕ → Count24
 count24Back (accepted x) = Count24.Count x
-count24Back (refused n) = Count24.TooLarge
-count24Back (refusedWith n x) = Count24.TooLarge
+count24Back (refusal n carried) = Count24.TooLarge
 
 -- an answer is the one that reads as it does
 pub count24-home : (a : Count24) → count24Back (count24Paper a) ≡ a

@@ -13,8 +13,9 @@ use lib.Count.{leadingZeros, leading-of-zero, leading-top}
 use lib.Dec.{ltb, eqb·suc-zero}
 use borrow.Author.Tests.{ltb-true, ltb-false}
 use Rattle.ground.specs.Choice.{pick-elim}
+use Rattle.ground.specs.Greatest.{GrowsStrictly, strictly-grows, between-greatest, value-greatest, greatest-one}
 use Rattle.ground.specs.Paper.{Paper, accepted, refused}
-use Rattle.format.specs.Codes.{Grows, between-largest, value-largest, largest-one, takes-one}
+use Rattle.format.specs.Codes.{takes-one}
 use Rattle.format.specs.Meaning.{exponent, mantissa, floatValue, Largest, Takes, halvingsOf, codeOf, codeMeans}
 
 -- the value of exponent and mantissa, by the two kinds of exponent
@@ -64,11 +65,15 @@ value-next w code =
     subst (λ (x : ℕ). floatValue w (suc x) ≡ floatValue w x + gap w code) (split code w)
     (next-fields w (exponent w code) (mantissa w code) (mod-lt code (pow-pos w)))
 
--- value grows with the code
-pub value-grows : (w : ℕ) → Grows (floatValue w)
+-- a greater code has a greater value
+pub value-grows : (w : ℕ) → GrowsStrictly (floatValue w)
 value-grows w a b h =
     le-ind (λ (m : ℕ). floatValue w a < floatValue w m) (omega (arith, value-next w a, pow-pos (exponent w a - 1)))
     (λ m k e. omega (arith, value-next w m, e)) b h
+
+-- what lies between the values of a code and the next takes that code
+between-largest : (w : ℕ) {count code : ℕ} → floatValue w code ≤ count → count < floatValue w (suc code) → Largest (floatValue w) count code
+between-largest w = between-greatest {value = floatValue w} (strictly-grows {value = floatValue w} (value-grows w))
 
 -- a code without exponent means itself
 low-value : (w : ℕ) {f : ℕ} → f < 2 ^ w → floatValue w f ≡ f
@@ -77,7 +82,7 @@ low-value w {f} h = let q : f ≡ 0 * 2 ^ w + f = omega arith in ap (floatValue 
 -- a count of at most w bits takes itself
 small-largest : (w : ℕ) {count : ℕ} → count < 2 ^ w → Largest (floatValue w) count count
 small-largest w {count} h =
-    between-largest (floatValue w) (value-grows w) (le-of-eq (low-value w h)) (omega (arith, low-value w h, value-next w count, pow-pos (exponent w count - 1)))
+    between-largest w (le-of-eq (low-value w h)) (omega (arith, low-value w h, value-next w count, pow-pos (exponent w count - 1)))
 
 -- a count whose leading w + 1 bits are t, with s bits below them
 large-largest : (w s t count : ℕ) → 2 ^ w ≤ t → t < 2 ^ w + 2 ^ w → t * 2 ^ s ≤ count → count < t * 2 ^ s + 2 ^ s → Largest (floatValue w) count (s * 2 ^ w + t)
@@ -89,7 +94,7 @@ large-largest w s t count a b c d =
     let n : floatValue w (suc (suc s * 2 ^ w + (t - 2 ^ w))) ≡ t * 2 ^ s + 2 ^ s =
     next-fields w (suc s) (t - 2 ^ w) f ∙ ap₂ (λ (x y : ℕ). x + 2 ^ y) v (suc-sub-suc s 0 ∙ sub-zero s) in
     subst (λ (x : ℕ). Largest (floatValue w) count x) code
-    (between-largest (floatValue w) (value-grows w) (subst (λ (x : ℕ). x ≤ count) (sym v) c) (subst (λ (x : ℕ). count < x) (sym n) d))
+    (between-largest w (subst (λ (x : ℕ). x ≤ count) (sym v) c) (subst (λ (x : ℕ). count < x) (sym n) d))
 
 -- s halvings leave at most w + 1 bits, and no fewer unless there were none
 record Scaled (w s count : ℕ) : Type 0 where
@@ -141,7 +146,7 @@ code-largest w count a h = scaled-largest w (halvingsOf w count) count (halvings
 
 -- the computed code of a value is that code
 pub code-of-value : (w code : ℕ) → w < 64 → floatValue w code < 2 ^ 64 → codeOf w (floatValue w code) ≡ code
-code-of-value w code a h = largest-one (code-largest w (floatValue w code) a h) (value-largest (floatValue w) (value-grows w) code)
+code-of-value w code a h = greatest-one (code-largest w (floatValue w code) a h) (value-greatest {value = floatValue w} (value-grows w) code)
 
 -- the computed answer is the sentence's
 pub means-takes : (w limit count : ℕ) → w < 64 → limit ≤ 2 ^ 64 → Takes (floatValue w) limit count (codeMeans w limit count)

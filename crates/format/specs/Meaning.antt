@@ -5,7 +5,8 @@ use Prim.Native.Nat.{ℕ, _+_, _-_, _*_, _/_, _%_, _^_, _≤_, _<_}
 use lib.Count.{leadingZeros}
 use lib.Dec.{eqb, ltb}
 use Rattle.ground.specs.Choice.{pick}
-use Rattle.ground.specs.Paper.{Paper, accepted, refused, refusedWith}
+use Rattle.ground.specs.Greatest.{Greatest, Reaches}
+use Rattle.ground.specs.Paper.{Paper, accepted, refusal, refused}
 
 -- the exponent e of a code: what stands above its mantissa
 abbrev pub exponent : ℕ → ℕ → ℕ
@@ -20,16 +21,14 @@ abbrev pub floatValue : ℕ → ℕ → ℕ
 floatValue w code =
     pick (eqb (exponent w code) 0) (mantissa w code) ((mantissa w code + 2 ^ w) * 2 ^ (exponent w code - 1))
 
--- "A count takes the largest code whose value is not above it": its value is not above the count, and no larger code's is
-pub record Largest (value : ℕ → ℕ) (count code : ℕ) : Type 0 where
-  pub reached : value code ≤ count
-  pub most : (other : ℕ) → value other ≤ count → other ≤ code
+-- "A count takes the largest code whose value is not above it"
+abbrev pub Largest : (ℕ → ℕ) → ℕ → ℕ → Type 0
+Largest value count code = Greatest (Reaches value count) code
 
 -- below the format's limit a count takes that code; "Counts from .. on are refused" by 12, count too large for the format
 abbrev pub Takes : (ℕ → ℕ) → ℕ → ℕ → Paper ℕ → Type 0
 Takes value limit count (accepted code) = (count < limit) × Largest value count code
-Takes value limit count (refused n) = (limit ≤ count) × (n ≡ 12)
-Takes value limit count (refusedWith n x) = ⊥
+Takes value limit count (refusal n carried) = (limit ≤ count) × (_≡_ {A = Paper ℕ} (refusal n carried) (refused 12))
 
 -- how often a count is halved until w + 1 bits hold it: "w mantissa bits" and the leading one
 abbrev pub halvingsOf : ℕ → ℕ → ℕ

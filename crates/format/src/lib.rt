@@ -4,7 +4,8 @@ ghost use Prim.Native.Nat.{_-_, _*_, _/_, _^_, _<_};
 ghost use lib.Count.{leadingZeros};
 ghost use Rattle.ground.specs.Paper.{numberOf};
 ghost use Rattle.format.specs.Answers.{code16Paper, code8Paper, code24Paper, count24Paper};
-ghost use Rattle.format.specs.Promise.{Float16CodePromise, Float16CountPromise, Float8CodePromise, Float8CountPromise, Int24CodePromise, Int24CountPromise};
+ghost use Rattle.format.specs.Promise.{Float16CodePromise, Float16CountPromise, Float8CodePromise, Float8CountPromise};
+ghost use Rattle.format.specs.Promise.{Int24CodePromise, Int24CountPromise};
 
 // The 16-bit float of a count, or the refusal of a count too large for it.
 pub enum Code16 {

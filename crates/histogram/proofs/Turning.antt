@@ -15,21 +15,23 @@ use Rattle.histogram.specs.declared.turn.Turn.{Turn}
 use Rattle.histogram.specs.declared.turn.Turn.the-variants.{NewAsk, LastAsk, OtherWindow, OutOfTurn}
 
 module _ (l : List ℕ) (number : ℕ) (w : Window) where
-  -- the last number and its window
-  pub turn-last : number ≡ getD l 3 0 → {r : Bool} → r ≡ sameOf (windowIn l) w → r ≡ true → LastAsk (getD l 9 0) ≡ turnOf (lastIn l) number w
-  turn-last e f t = rw (eq-eqb _ _ e, ← f, t)
+  module _ {last : Bool} (e : last ≡ eqb number (getD l 3 0)) where
+    -- the last number and its window
+    pub turn-last : last ≡ true → {r : Bool} → r ≡ sameOf (windowIn l) w → r ≡ true → {t : Turn} → t ≡ LastAsk (getD l 9 0)
+        → t ≡ turnOf (lastIn l) number w
+    turn-last h f k g = rw (← e, h, ← f, k) g
 
-  -- the last number, another window
-  pub turn-other : number ≡ getD l 3 0 → {r : Bool} → r ≡ sameOf (windowIn l) w → r ≡ false → OtherWindow ≡ turnOf (lastIn l) number w
-  turn-other e f t = rw (eq-eqb _ _ e, ← f, t)
+    -- the last number, another window
+    pub turn-other : last ≡ true → {r : Bool} → r ≡ sameOf (windowIn l) w → r ≡ false → OtherWindow ≡ turnOf (lastIn l) number w
+    turn-other h f k = rw (← e, h, ← f, k)
 
-  -- the next number
-  pub turn-new : (number ≡ getD l 3 0 → ⊥) → {r : Bool} → r ≡ eqb number (nextOf (getD l 3 0)) → r ≡ true → NewAsk ≡ turnOf (lastIn l) number w
-  turn-new d f t = rw (ne-eqb _ _ d, ← f, t)
+    -- the next number
+    pub turn-new : last ≡ false → {r : Bool} → r ≡ eqb number (nextOf (getD l 3 0)) → r ≡ true → NewAsk ≡ turnOf (lastIn l) number w
+    turn-new h f k = rw (← e, h, ← f, k)
 
-  -- any other number
-  pub turn-out : (number ≡ getD l 3 0 → ⊥) → {r : Bool} → r ≡ eqb number (nextOf (getD l 3 0)) → r ≡ false → OutOfTurn ≡ turnOf (lastIn l) number w
-  turn-out d f t = rw (ne-eqb _ _ d, ← f, t)
+    -- any other number
+    pub turn-out : last ≡ false → {r : Bool} → r ≡ eqb number (nextOf (getD l 3 0)) → r ≡ false → OutOfTurn ≡ turnOf (lastIn l) number w
+    turn-out h f k = rw (← e, h, ← f, k)
 
   -- an ask is kept
   pub after-last : (getD l 2 0 ≡ 0 → ⊥) → {r : Turn} → r ≡ turnOf (lastIn l) number w → r ≡ turnOf (keptIn l) number w

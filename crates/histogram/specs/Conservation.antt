@@ -7,10 +7,11 @@ use Prim.Native.Nat.{ℕ, zero, suc, _+_, _<_}
 use native.Mathlib.Omega.{arith}
 use lib.ListN.{length, getD, set, replicate}
 use Rattle.ground.specs.Choice.{pick}
+use Rattle.ground.specs.Outcome.{refuse}
 use Rattle.ground.specs.Paper.{accepted}
 use Rattle.pages.specs.Layout.{placeOf, within}
-use Rattle.pages.specs.Meaning.{Walk, cellsOf, visitOf, walkOf, wordOf}
-use Rattle.histogram.specs.Meaning.{Outcome, done, openMeans, refuse}
+use Rattle.pages.specs.Meaning.{Walk, cellsOf, visitOf, walkAt, walkOf, wordOf}
+use Rattle.histogram.specs.Meaning.{CallOutcome, done, lent, openMeans}
 use Rattle.histogram.specs.Outcomes.{call-elim, is-opened}
 use Rattle.histogram.specs.Runs.{Call, increment, flip, ask, Ledger, acceptedBy, callMeans, clearedBy, opening, run, step, total}
 use Rattle.histogram.specs.Words.{pageIn}
@@ -54,17 +55,17 @@ walk-keeps page w (x ∷ xs) = walk-keeps page (visitOf page false w x) xs
 
 -- what a walk from nothing leaves and hands out where it clears is what was there
 pub walk-conserves : (page clear : Bool) (m : List ℕ) (cells : List ℕ)
-    → total (walkOf page clear (record { memory = m; sum = 0 }) cells .memory) + pick clear (walkOf page clear (record { memory = m; sum = 0 }) cells .sum) 0
+    → total (walkOf page clear (walkAt m 0) cells .memory) + pick clear (walkOf page clear (walkAt m 0) cells .sum) 0
     ≡ total m + 0
-walk-conserves page true m cells = walk-clears page (record { memory = m; sum = 0 }) cells
-walk-conserves page false m cells = ap (λ (l : List ℕ). total l + 0) (walk-keeps page (record { memory = m; sum = 0 }) cells)
+walk-conserves page true m cells = walk-clears page (walkAt m 0) cells
+walk-conserves page false m cells = ap (λ (l : List ℕ). total l + 0) (walk-keeps page (walkAt m 0) cells)
 
 -- what one call keeps: the counts held and cleared grow by the increments accepted
-abbrev pub Conserves : List ℕ → Call → Outcome → Type 0
-Conserves m c o = total (o .memory) + clearedBy c (o .answer) ≡ total m + acceptedBy c (o .answer)
+abbrev pub Conserves : List ℕ → Call → CallOutcome → Type 0
+Conserves m c o = total (o .leaves .memory) + clearedBy c (o .answer) ≡ total m + acceptedBy c (o .answer)
 
 -- a refusal conserves
-refusal-conserves : (m w : List ℕ) (c : Call) (n : ℕ) → Conserves m c (refuse n m w)
+refusal-conserves : (m w : List ℕ) (c : Call) (n : ℕ) → Conserves m c (refuse n (lent m w))
 refusal-conserves m w (increment address) n = refl
 refusal-conserves m w flip n = refl
 refusal-conserves m w (ask number v) n = refl
@@ -93,7 +94,7 @@ run-balanced l (c ∷ cs) b = run-balanced (step l c) cs (step-balanced l c b)
 
 -- an opened memory holds zeros alone
 pub opened-balanced : (m w : List ℕ) → openMeans m w .answer ≡ accepted done → Balanced (opening m w)
-opened-balanced m w e = omega (arith, total-zeros (length m), ap (λ (o : Outcome). total (o .memory)) (is-opened m w e .left))
+opened-balanced m w e = omega (arith, total-zeros (length m), ap (λ (o : CallOutcome). total (o .leaves .memory)) (is-opened m w e .left))
 
 -- demand 3: for every N, every sequence of calls from freshly opened memory, refused calls among them, held plus cleared equals accepted
 pub conservation : (m w : List ℕ) → openMeans m w .answer ≡ accepted done → (cs : List Call) → Balanced (run (opening m w) cs)

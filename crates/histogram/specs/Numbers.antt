@@ -1,21 +1,20 @@
 -- The numbers of asks: "A new ask bears the number after the last accepted, 1 after opening, 0 after 65535".
 -- Assumes nothing.
-use mathlib.Core.Bool.{true}
 use mathlib.Core.Path.{_≡_, refl, ap, _∙_}
 use mathlib.Core.List.{List}
 use Prim.Native.Nat.{ℕ, _+_}
 use native.Mathlib.Omega.{arith}
 use lib.Dec.{eqb}
-use lib.ListN.{length, length-replicate}
+use lib.ListN.{length, length-replicate, replicate}
 use borrow.Author.Tests.{eqb-true, ne-eqb}
 use Rattle.ground.specs.Choice.{pick-elim}
 use Rattle.ground.specs.Paper.{accepted, refused}
 use Rattle.pages.specs.declared.Window.{Window}
-use Rattle.histogram.specs.Meaning.{Outcome, askMeans, done, fittingOf, new, openMeans}
-use Rattle.histogram.specs.Outcomes.{IsOpened, is-opened}
+use Rattle.histogram.specs.Meaning.{Admits, CallOutcome, admission, askMeans, done, new, openMeans}
+use Rattle.histogram.specs.Outcomes.{is-opened}
 use Rattle.histogram.specs.Repeat.{is-new, stays-kept}
 use Rattle.histogram.specs.Runs.{Call, ask, Ledger, NoNew, answered, opening, run, step}
-use Rattle.histogram.specs.States.{fresh-fits}
+use Rattle.histogram.specs.States.{fresh-admits, framed-admits, framed-same}
 use Rattle.histogram.specs.Stays.{run-stays}
 use Rattle.histogram.specs.Turns.{nextOf, sameOf, turnOf}
 use Rattle.histogram.specs.Words.{Kept, Last, Nothing, freshIn, keptIn}
@@ -55,17 +54,17 @@ pub new-bears : (m w : List ℕ) (number sum : ℕ) (v : Window) → askMeans m 
 new-bears m w number sum v e = new-number (keptIn w) number v (is-new m w number sum v e .turn)
 
 module _ (m w : List ℕ) (o : openMeans m w .answer ≡ accepted done) where
-  -- an opened memory fits its state
-  opened-fits : fittingOf (length (opening m w .memory)) (opening m w .state) ≡ true
-  opened-fits =
-      let i : IsOpened m w (openMeans m w) = is-opened m w o in
-      ap (λ (x : Outcome). fittingOf (length (x .memory)) (x .state)) (i .left)
-      ∙ ap (λ (n : ℕ). fittingOf n (freshIn w (length m))) (length-replicate (length m) 0)
-      ∙ fresh-fits w (length m) (i .taken)
+  -- on an opened memory calls may go on
+  opened-admits : Admits (opening m w .memory) (opening m w .state)
+  opened-admits =
+      let i = is-opened m w o in
+      ap (λ (x : CallOutcome). admission (x .leaves .memory) (x .leaves .state)) (i .left)
+      ∙ framed-admits m (replicate (length m) 0) (length-replicate (length m) 0) (framed-same (freshIn w (length m)))
+      ∙ fresh-admits m w (i .sized)
 
   -- and nothing is kept
   opened-keeps : keptIn (opening m w .state) ≡ Nothing
-  opened-keeps = ap (λ (x : Outcome). keptIn (x .state)) (is-opened m w o .left)
+  opened-keeps = ap (λ (x : CallOutcome). keptIn (x .leaves .state)) (is-opened m w o .left)
 
   -- the first new ask after opening bears number 1, whatever calls lie before it
   pub first-number : (cs : List Call) → NoNew (opening m w) cs → (number sum : ℕ) (v : Window)
@@ -80,7 +79,7 @@ module _ (m w : List ℕ) (o : openMeans m w .answer ≡ accepted done) where
   unfolding askMeans
   out-of-turn cs n number v h =
       let r = run-stays (opening m w) cs n in
-      rw (r .0 ∙ opened-fits, r .1 ∙ opened-keeps, ne-eqb number 1 h)
+      rw (r .0 ∙ opened-admits, r .1 ∙ opened-keeps, ne-eqb number 1 h)
 
   -- "After opening nothing is kept and number 0 is out of turn"
   pub zero-out-of-turn : (cs : List Call) → NoNew (opening m w) cs → (v : Window) → answered (run (opening m w) cs) (ask 0 v) .answer ≡ refused 17
@@ -89,7 +88,8 @@ module _ (m w : List ℕ) (o : openMeans m w .answer ≡ accepted done) where
 -- the next new ask bears the number after the last accepted one's, whatever calls lie between
 pub next-number : (l : Ledger) (number sum : ℕ) (v : Window) (later : List Call) → answered l (ask number v) .answer ≡ accepted (new sum)
     → NoNew (step l (ask number v)) later
-    → (number′ sum′ : ℕ) (v′ : Window) → answered (run (step l (ask number v)) later) (ask number′ v′) .answer ≡ accepted (new sum′) → number′ ≡ nextOf number
+    → (number′ sum′ : ℕ) (v′ : Window) → answered (run (step l (ask number v)) later) (ask number′ v′) .answer ≡ accepted (new sum′)
+    → number′ ≡ nextOf number
 next-number l number sum v later e n number′ sum′ v′ e′ =
     new-bears (run (step l (ask number v)) later .memory) (run (step l (ask number v)) later .state) number′ sum′ v′ e′
-    ∙ ap turnNumber (stays-kept l number sum v later e n .1)
+    ∙ ap turnNumber (stays-kept l number sum v later e n .kept)

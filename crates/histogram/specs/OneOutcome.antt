@@ -3,45 +3,43 @@
 use mathlib.Core.Path.{_≡_, ap}
 use mathlib.Core.List.{List}
 use Prim.Native.Nat.{ℕ}
-use Rattle.ground.specs.Paper.{numberOf, one-answer, one-value}
+use Rattle.ground.specs.Outcome.{outcomeOf, outcome-one}
+use Rattle.ground.specs.Paper.{Paper, numberOf, one-value}
 use Rattle.pages.specs.declared.Window.{Window}
 use Rattle.histogram.specs.Answers.{openedPaper, openedBack, opened-home, incrementPaper, incrementBack, increment-home}
 use Rattle.histogram.specs.Answers.{flipPaper, flipBack, flip-home, askPaper, askBack, ask-home}
-use Rattle.histogram.specs.Meaning.{Outcome, outcomeOf}
-use Rattle.ground.specs.Paper.{Paper}
-use Rattle.histogram.specs.Meaning.{Value}
+use Rattle.histogram.specs.Meaning.{CallOutcome, Lent, Value, lent}
 use Rattle.histogram.specs.Promise.{OpenPromise, IncrementPromise, FlipPromise, AskPromise}
 use Rattle.histogram.specs.declared.Opened.{Opened}
 use Rattle.histogram.specs.declared.IncrementAnswer.{IncrementAnswer}
 use Rattle.histogram.specs.declared.FlipAnswer.{FlipAnswer}
 use Rattle.histogram.specs.declared.AskAnswer.{AskAnswer}
 
--- one outcome, whatever the call: where two are one record on paper, answer, memory and state are one
-pub outcome-one : {R : Type 0} (paper : R → Paper Value) (back : Paper Value → R) → ((r : R) → back (paper r) ≡ r)
-    → {r s : R} {m n w v : List ℕ} {o : Outcome} → outcomeOf (paper r) m w ≡ o → outcomeOf (paper s) n v ≡ o → (r ≡ s) × (m ≡ n) × (w ≡ v)
-outcome-one paper back home p q = (
-  one-answer paper back home (ap (λ (o : Outcome). o .answer) p) (ap (λ (o : Outcome). o .answer) q),
-  ap (λ (o : Outcome). o .memory) (one-value p q),
-  ap (λ (o : Outcome). o .state) (one-value p q),
-)
+-- one outcome, whatever the call: answer, memory and state
+call-one : {R : Type 0} (paper : R → Paper Value) (back : Paper Value → R) → ((r : R) → back (paper r) ≡ r)
+    → {r s : R} {m n w v : List ℕ} {o : CallOutcome} → outcomeOf (paper r) (lent m w) ≡ o → outcomeOf (paper s) (lent n v) ≡ o
+    → (r ≡ s) × (m ≡ n) × (w ≡ v)
+call-one paper back home p q =
+    let one = outcome-one paper back home p q in (one .0, ap (λ (l : Lent). l .memory) (one .1), ap (λ (l : Lent). l .state) (one .1))
 
 -- opening
-pub open-one : {m w : List ℕ} {r s : Opened} {m′ n′ w′ v′ : List ℕ} → OpenPromise m w r m′ w′ → OpenPromise m w s n′ v′ → (r ≡ s) × (m′ ≡ n′) × (w′ ≡ v′)
-open-one p q = outcome-one openedPaper openedBack opened-home (p .outcome) (q .outcome)
+pub open-one : {m w : List ℕ} {r s : Opened} {m′ n′ w′ v′ : List ℕ} → OpenPromise m w r m′ w′ → OpenPromise m w s n′ v′
+    → (r ≡ s) × (m′ ≡ n′) × (w′ ≡ v′)
+open-one p q = call-one openedPaper openedBack opened-home (p .outcome) (q .outcome)
 
 -- an increment; the state is lent unchangeable
 pub increment-one : {m w : List ℕ} {a : ℕ} {r s : IncrementAnswer} {m′ n′ : List ℕ} → IncrementPromise m w a r m′ → IncrementPromise m w a s n′
     → (r ≡ s) × (m′ ≡ n′)
-increment-one p q = let one = outcome-one incrementPaper incrementBack increment-home (p .outcome) (q .outcome) in (one .0, one .1)
+increment-one p q = let one = call-one incrementPaper incrementBack increment-home (p .outcome) (q .outcome) in (one .0, one .1)
 
 -- a flip; the memory is lent unchangeable
 pub flip-one : {m w : List ℕ} {r s : FlipAnswer} {w′ v′ : List ℕ} → FlipPromise m w r w′ → FlipPromise m w s v′ → (r ≡ s) × (w′ ≡ v′)
-flip-one p q = let one = outcome-one flipPaper flipBack flip-home (p .outcome) (q .outcome) in (one .0, one .2)
+flip-one p q = let one = call-one flipPaper flipBack flip-home (p .outcome) (q .outcome) in (one .0, one .2)
 
 -- an ask
 pub ask-one : {m w : List ℕ} {number : ℕ} {window : Window} {r s : AskAnswer} {m′ n′ w′ v′ : List ℕ}
     → AskPromise m w number window r m′ w′ → AskPromise m w number window s n′ v′ → (r ≡ s) × (m′ ≡ n′) × (w′ ≡ v′)
-ask-one p q = outcome-one askPaper askBack ask-home (p .outcome) (q .outcome)
+ask-one p q = call-one askPaper askBack ask-home (p .outcome) (q .outcome)
 
 -- one number for opening's answer
 pub open-number-one : (answer : Opened) {m n : ℕ} → m ≡ numberOf (openedPaper answer) → n ≡ numberOf (openedPaper answer) → m ≡ n

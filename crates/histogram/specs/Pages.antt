@@ -5,13 +5,14 @@ use mathlib.Core.Path.{_≡_, refl}
 use mathlib.Core.List.{List}
 use Prim.Native.Nat.{ℕ, _+_, _/_, _<_}
 use lib.ListN.{length}
-use Rattle.ground.specs.Paper.{accepted}
-use Rattle.pages.specs.Meaning.{cellsOf, wordOf}
+use Rattle.ground.specs.Outcome.{refuse}
+use Rattle.ground.specs.Paper.{accepted, refused-not}
+use Rattle.pages.specs.Meaning.{cellsOf, walkAt, wordOf}
 use Rattle.pages.specs.Walks.{cells-all-under, walk-leaves}
 use Rattle.pages.specs.Words.{put-same, put-other}
 use Rattle.pages.specs.declared.Window.{Window}
-use Rattle.histogram.specs.Meaning.{Outcome, askMeans, done, incrementMeans, refuse}
-use Rattle.histogram.specs.Outcomes.{call-elim, refused-not}
+use Rattle.histogram.specs.Meaning.{CallOutcome, askMeans, done, incrementMeans, lent}
+use Rattle.histogram.specs.Outcomes.{call-elim}
 use Rattle.histogram.specs.Runs.{Call, increment, flip, ask, callMeans}
 use Rattle.histogram.specs.Words.{pageIn}
 
@@ -21,13 +22,13 @@ pub record Raised (m : List ℕ) (page : Bool) (address : ℕ) (after : List ℕ
   pub others : (q : Bool) (b : ℕ) → b < length m / 2 → ((q ≡ page) × (b ≡ address) → ⊥) → wordOf after q b ≡ wordOf m q b
 
 -- what each call does to the counters: an accepted increment raises one; no ask changes one of the active page
-abbrev pub Counters : List ℕ → Bool → Call → Outcome → Type 0
-Counters m page (increment address) o = o .answer ≡ accepted done → Raised m page address (o .memory)
-Counters m page flip o = o .memory ≡ m
-Counters m page (ask number v) o = (b : ℕ) → b < length m / 2 → wordOf (o .memory) page b ≡ wordOf m page b
+abbrev pub Counters : List ℕ → Bool → Call → CallOutcome → Type 0
+Counters m page (increment address) o = o .answer ≡ accepted done → Raised m page address (o .leaves .memory)
+Counters m page flip o = o .leaves .memory ≡ m
+Counters m page (ask number v) o = (b : ℕ) → b < length m / 2 → wordOf (o .leaves .memory) page b ≡ wordOf m page b
 
 -- a refusal does nothing to them
-refusal-leaves : (m w : List ℕ) (page : Bool) (c : Call) (n : ℕ) → Counters m page c (refuse n m w)
+refusal-leaves : (m w : List ℕ) (page : Bool) (c : Call) (n : ℕ) → Counters m page c (refuse n (lent m w))
 refusal-leaves m w page (increment address) n = λ e. absurd (refused-not e)
 refusal-leaves m w page flip n = refl
 refusal-leaves m w page (ask number v) n = λ b k. refl
@@ -41,15 +42,15 @@ call-counters m w =
       others = λ q b j d. put-other m (pageIn w) q a b (wordOf m (pageIn w) a + 1) k j d;
     })
     (λ h. refl)
-    (λ h number v k t b j. walk-leaves (pageIn w) (v .clear) (record { memory = m; sum = 0 }) (cellsOf v) b (cells-all-under (length m / 2) v k) j)
+    (λ h number v k t b j. walk-leaves (pageIn w) (v .clear) (walkAt m 0) (cellsOf v) b (cells-all-under (length m / 2) v k) j)
     (λ h number sum v b j. refl)
 
 -- what an accepted increment leaves
 pub increment-raises : (m w : List ℕ) (address : ℕ) → incrementMeans m w address .answer ≡ accepted done
-    → Raised m (pageIn w) address (incrementMeans m w address .memory)
+    → Raised m (pageIn w) address (incrementMeans m w address .leaves .memory)
 increment-raises m w address = call-counters m w (increment address)
 
 -- "It works on the idle page": an ask, whatever it answers, leaves every counter of the active page
 pub ask-leaves-active : (m w : List ℕ) (number : ℕ) (v : Window) (b : ℕ) → b < length m / 2
-    → wordOf (askMeans m w number v .memory) (pageIn w) b ≡ wordOf m (pageIn w) b
+    → wordOf (askMeans m w number v .leaves .memory) (pageIn w) b ≡ wordOf m (pageIn w) b
 ask-leaves-active m w number v = call-counters m w (ask number v)

@@ -3,9 +3,10 @@
 use mathlib.Core.Path.{_≡_}
 use mathlib.Core.List.{List}
 use Prim.Native.Nat.{ℕ}
+use Rattle.ground.specs.Outcome.{outcomeOf}
 use Rattle.pages.specs.declared.Window.{Window}
 use Rattle.histogram.specs.Answers.{openedPaper, incrementPaper, flipPaper, askPaper}
-use Rattle.histogram.specs.Meaning.{askMeans, flipMeans, incrementMeans, openMeans, outcomeOf}
+use Rattle.histogram.specs.Meaning.{askMeans, flipMeans, incrementMeans, lent, openMeans}
 use Rattle.histogram.specs.declared.Opened.{Opened}
 use Rattle.histogram.specs.declared.IncrementAnswer.{IncrementAnswer}
 use Rattle.histogram.specs.declared.FlipAnswer.{FlipAnswer}
@@ -13,16 +14,16 @@ use Rattle.histogram.specs.declared.AskAnswer.{AskAnswer}
 
 -- what opening promises
 pub record OpenPromise (memory state : List ℕ) (r : Opened) (memory′ state′ : List ℕ) : Type 0 where
-  pub outcome : outcomeOf (openedPaper r) memory′ state′ ≡ openMeans memory state
+  pub outcome : outcomeOf (openedPaper r) (lent memory′ state′) ≡ openMeans memory state
 
 -- what an increment promises; the state is lent unchangeable
 pub record IncrementPromise (memory state : List ℕ) (address : ℕ) (r : IncrementAnswer) (memory′ : List ℕ) : Type 0 where
-  pub outcome : outcomeOf (incrementPaper r) memory′ state ≡ incrementMeans memory state address
+  pub outcome : outcomeOf (incrementPaper r) (lent memory′ state) ≡ incrementMeans memory state address
 
 -- what a flip promises; the memory is lent unchangeable
 pub record FlipPromise (memory state : List ℕ) (r : FlipAnswer) (state′ : List ℕ) : Type 0 where
-  pub outcome : outcomeOf (flipPaper r) memory state′ ≡ flipMeans memory state
+  pub outcome : outcomeOf (flipPaper r) (lent memory state′) ≡ flipMeans memory state
 
 -- what an ask promises
 pub record AskPromise (memory state : List ℕ) (number : ℕ) (window : Window) (r : AskAnswer) (memory′ state′ : List ℕ) : Type 0 where
-  pub outcome : outcomeOf (askPaper r) memory′ state′ ≡ askMeans memory state number window
+  pub outcome : outcomeOf (askPaper r) (lent memory′ state′) ≡ askMeans memory state number window

@@ -5,9 +5,9 @@ use mathlib.Core.Path.{_≡_, refl}
 use mathlib.Core.List.{List, [], _∷_, _++_}
 use Prim.Native.Nat.{ℕ, _+_}
 use Rattle.ground.specs.Choice.{pick}
-use Rattle.ground.specs.Paper.{Paper, accepted, refused, refusedWith}
+use Rattle.ground.specs.Paper.{Paper, accepted, refusal}
 use Rattle.pages.specs.declared.Window.{Window}
-use Rattle.histogram.specs.Meaning.{Outcome, Value, done, new, again, askMeans, flipMeans, incrementMeans, openMeans}
+use Rattle.histogram.specs.Meaning.{CallOutcome, Value, done, new, again, askMeans, flipMeans, incrementMeans, openMeans}
 
 -- a call on an opened memory
 pub data Call : Type 0 where
@@ -16,7 +16,7 @@ pub data Call : Type 0 where
   ask : ℕ → Window → Call
 
 -- what a call means on a memory and a state
-abbrev pub callMeans : List ℕ → List ℕ → Call → Outcome
+abbrev pub callMeans : List ℕ → List ℕ → Call → CallOutcome
 callMeans m w (increment address) = incrementMeans m w address
 callMeans m w flip = flipMeans m w
 callMeans m w (ask number v) = askMeans m w number v
@@ -24,8 +24,7 @@ callMeans m w (ask number v) = askMeans m w number v
 -- what an answered call adds to the accepted increments
 abbrev pub acceptedBy : Call → Paper Value → ℕ
 acceptedBy (increment address) (accepted v) = 1
-acceptedBy (increment address) (refused n) = 0
-acceptedBy (increment address) (refusedWith n x) = 0
+acceptedBy (increment address) (refusal n carried) = 0
 acceptedBy flip p = 0
 acceptedBy (ask number w) p = 0
 
@@ -36,16 +35,14 @@ clearedBy flip p = 0
 clearedBy (ask number w) (accepted done) = 0
 clearedBy (ask number w) (accepted (new sum)) = pick (w .clear) sum 0
 clearedBy (ask number w) (accepted (again sum)) = 0
-clearedBy (ask number w) (refused n) = 0
-clearedBy (ask number w) (refusedWith n x) = 0
+clearedBy (ask number w) (refusal n carried) = 0
 
 -- whether an answer is that of a new ask
 abbrev pub isNew : Paper Value → Bool
 isNew (accepted done) = false
 isNew (accepted (new sum)) = true
 isNew (accepted (again sum)) = false
-isNew (refused n) = false
-isNew (refusedWith n x) = false
+isNew (refusal n carried) = false
 
 -- the counts that a memory holds, both pages together
 abbrev pub total : List ℕ → ℕ
@@ -61,18 +58,18 @@ pub record Ledger : Type 0 where
 
 -- a freshly opened memory: nothing cleared, nothing accepted
 abbrev pub opening : List ℕ → List ℕ → Ledger
-opening m w = record { memory = openMeans m w .memory; state = openMeans m w .state; cleared = 0; increments = 0 }
+opening m w = record { memory = openMeans m w .leaves .memory; state = openMeans m w .leaves .state; cleared = 0; increments = 0 }
 
 -- what a call answers on a ledger's memory and state
-abbrev pub answered : Ledger → Call → Outcome
+abbrev pub answered : Ledger → Call → CallOutcome
 answered l c = callMeans (l .memory) (l .state) c
 
 -- one call
 abbrev pub step : Ledger → Call → Ledger
 step l c =
     record {
-      memory = answered l c .memory;
-      state = answered l c .state;
+      memory = answered l c .leaves .memory;
+      state = answered l c .leaves .state;
       cleared = l .cleared + clearedBy c (answered l c .answer);
       increments = l .increments + acceptedBy c (answered l c .answer);
     }

@@ -1,19 +1,20 @@
 -- Laws of a state's words: what they say after a call wrote into them, which words no call changes, and which it looks at.
 -- Assumes nothing.
-use mathlib.Core.Bool.{Bool, true, false, not, _&&_}
-use mathlib.Core.Path.{_≡_, refl, ap₂}
+use mathlib.Core.Bool.{Bool, true, false, not}
+use mathlib.Core.Path.{_≡_, refl}
 use mathlib.Core.List.{List, [], _∷_}
 use Prim.Native.Nat.{ℕ, _≤_}
 use native.Mathlib.Omega.{arith}
 use borrow.Author.Tests.{eq-eqb, le-leb, leb-true}
-use lib.Dec.{eqb, leb}
 use lib.ListN.{drop, getD, length}
-use Rattle.ground.specs.Choice.{pick}
+use Rattle.ground.specs.Choice.{pick-elim}
 use Rattle.ground.specs.Questions.{both-hold}
-use Rattle.pages.specs.Meaning.{PageOutcome, countMeans, sizedOf}
+use Rattle.ground.specs.Outcome.{Outcome, onwardTo}
+use Rattle.ground.specs.Paper.{Paper, accepted, refusal, refused-not}
+use Rattle.pages.specs.Meaning.{countMeans, sizedOf}
 use Rattle.pages.specs.declared.Window.{Window}
 use Rattle.histogram.specs.Words.{Kept, Last, Nothing, flagIn, flagOf, flipIn, freshIn, keepIn, keptIn, pageIn, stateWords}
-use Rattle.histogram.specs.Meaning.{counting, fittingOf, incrementMeans, refuse, roomy}
+use Rattle.histogram.specs.Meaning.{Admits, admission, counting, fittingOf, incrementMeans, lent, roomy}
 
 -- what holds of ten words and any rest holds of ten words or more
 pub ten : (P : List ℕ → Type 0) → ((a b c d e f g h i j : ℕ) (l : List ℕ) → P (a ∷ b ∷ c ∷ d ∷ e ∷ f ∷ g ∷ h ∷ i ∷ j ∷ l))
@@ -30,9 +31,13 @@ ten P p (a ∷ b ∷ c ∷ d ∷ e ∷ f ∷ g ∷ h ∷ []) n = absurd (omega a
 ten P p (a ∷ b ∷ c ∷ d ∷ e ∷ f ∷ g ∷ h ∷ i ∷ []) n = absurd (omega arith)
 ten P p (a ∷ b ∷ c ∷ d ∷ e ∷ f ∷ g ∷ h ∷ i ∷ j ∷ l) n = p a b c d e f g h i j l
 
--- where a memory fits, a state's words were lent
-pub fits-long : (n : ℕ) (w : List ℕ) → fittingOf n w ≡ true → stateWords ≤ length w
-fits-long n w h = leb-true stateWords (length w) (both-hold {a = roomy w} h .0)
+-- where a call may go on, a state's words were lent
+pub admits-long : (m w : List ℕ) → Admits m w → stateWords ≤ length w
+unfolding admission
+admits-long m w =
+    pick-elim (λ (p : Paper (Unit {0})). p ≡ accepted tt → stateWords ≤ length w) (fittingOf (length m) w) _ _
+    (λ h e. leb-true stateWords (length w) (both-hold {a = roomy w} h .0))
+    (λ h e. absurd (refused-not e))
 
 -- a flag's word says the flag
 pub flag-home : (b : Bool) → flagIn (flagOf b) ≡ b
@@ -56,9 +61,12 @@ pub keep-says : (w : List ℕ) (n : ℕ) (v : Window) (sum : ℕ) → stateWords
 keep-says w n v sum =
     ten (λ l. Says (keepIn l n v sum) (pageIn l) (Last n v sum)) (λ a b c d e f g h i j l. (refl, rw (flag-home (v .clear)))) w
 
--- an opened memory fits its state
-pub fresh-fits : (w : List ℕ) (n : ℕ) → sizedOf n ≡ true → fittingOf n (freshIn w n) ≡ true
-fresh-fits w n h = rw (le-leb stateWords (length (freshIn w n)) (omega arith), h, eq-eqb n n refl)
+-- an opened memory fits its state: calls on the two may go on
+pub fresh-admits : (m w : List ℕ) → sizedOf (length m) ≡ true → Admits m (freshIn w (length m))
+unfolding admission
+fresh-admits m w h =
+    let n = length m in
+    rw (le-leb stateWords (length (freshIn w n)) (omega arith), h, eq-eqb n n refl)
 
 -- no call changes how many words are lent, 2N, or a word past the state's
 pub record Framed (w v : List ℕ) : Type 0 where
@@ -78,19 +86,20 @@ flip-framed w = ten (λ l. Framed l (flipIn l)) (λ a b c d e f g h i j l. recor
 pub keep-framed : (w : List ℕ) (n : ℕ) (v : Window) (sum : ℕ) → stateWords ≤ length w → Framed w (keepIn w n v sum)
 keep-framed w n v sum = ten (λ l. Framed l (keepIn l n v sum)) (λ a b c d e f g h i j l. record { long = refl; size = refl; rest = refl }) w
 
--- so that a memory fits after a call where it did before
-pub framed-fits : {w v : List ℕ} → Framed w v → (n : ℕ) → fittingOf n v ≡ fittingOf n w
-framed-fits f n = ap₂ (λ (k words : ℕ). leb stateWords k && (sizedOf n && eqb n words)) (f .long) (f .size)
+-- so that a call may go on after another where it might before
+pub framed-admits : (m n : List ℕ) {w v : List ℕ} → length n ≡ length m → Framed w v → admission n v ≡ admission m w
+unfolding admission
+framed-admits m n e f = rw (e, f .long, f .size)
 
-module _ (m w v : List ℕ) (e : fittingOf (length m) w ≡ fittingOf (length m) v) where
+module _ (m w v : List ℕ) (e : admission m w ≡ admission m v) where
   -- an increment looks at 2N and the active page alone
   pub increment-reads : pageIn w ≡ pageIn v → (a : ℕ) → (incrementMeans m w a .answer ≡ incrementMeans m v a .answer)
-      × (incrementMeans m w a .memory ≡ incrementMeans m v a .memory)
+      × (incrementMeans m w a .leaves .memory ≡ incrementMeans m v a .leaves .memory)
   unfolding incrementMeans
-  increment-reads f a = rw (e, f) (either (fittingOf (length m) v) (countMeans m (pageIn v) a))
+  increment-reads f a = rw (e, f) (either (admission m v) (countMeans m (pageIn v) a))
     where
-      either : (b : Bool) (o : PageOutcome (Unit {0}))
-          → (pick b (counting w o) (refuse 13 m w) .answer ≡ pick b (counting v o) (refuse 13 m v) .answer)
-          × (pick b (counting w o) (refuse 13 m w) .memory ≡ pick b (counting v o) (refuse 13 m v) .memory)
-      either true o = (refl, refl)
-      either false o = (refl, refl)
+      either : (p : Paper (Unit {0})) (o : Outcome (Unit {0}) (List ℕ))
+          → (onwardTo (λ x. counting w o) (lent m w) p .answer ≡ onwardTo (λ x. counting v o) (lent m v) p .answer)
+          × (onwardTo (λ x. counting w o) (lent m w) p .leaves .memory ≡ onwardTo (λ x. counting v o) (lent m v) p .leaves .memory)
+      either (accepted x) o = (refl, refl)
+      either (refusal n carried) o = (refl, refl)

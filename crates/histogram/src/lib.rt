@@ -5,10 +5,11 @@ ghost use mathlib.Core.Bool.{not};
 ghost use mathlib.Core.Path.{_≡_};
 ghost use Prim.Native.Nat.{_≤_};
 ghost use lib.ListN.{length};
-ghost use Rattle.ground.specs.Paper.{numberOf};
+ghost use Rattle.ground.specs.Outcome.{outcomeOf};
+ghost use Rattle.ground.specs.Paper.{mapped, numberOf};
 ghost use Rattle.pages.specs.Answers.{countPaper};
 ghost use Rattle.histogram.specs.Words.{flagOf, freshIn, keepIn, pageIn, stateWords};
-ghost use Rattle.histogram.specs.Meaning.{countedPaper, fittingOf, newMeans, outcomeOf};
+ghost use Rattle.histogram.specs.Meaning.{done, fittingOf, lent, newMeans};
 ghost use Rattle.histogram.specs.Answers.{openedPaper, incrementPaper, flipPaper, askPaper};
 ghost use Rattle.histogram.specs.Promise.{OpenPromise, IncrementPromise, FlipPromise, AskPromise};
 use pages::CountAnswer;
@@ -225,7 +226,7 @@ fn idle_page(state: &[u64]) -> bool
 
 // An increment's answer to what counting answered.
 fn increment_answer(counted: CountAnswer) -> IncrementAnswer
-    ensures { λ r. ⌜ incrementPaper r ≡ countedPaper (countPaper counted) ⌝ }
+    ensures { λ r. ⌜ incrementPaper r ≡ mapped (λ x. done) (countPaper counted) ⌝ }
 {
     match counted {
         CountAnswer::Counted => IncrementAnswer::Counted,
@@ -238,7 +239,7 @@ fn increment_answer(counted: CountAnswer) -> IncrementAnswer
 // A new ask: refused, or its window taken and its sum kept.
 fn new_ask(memory: &mut [u32], state: &mut [u64], number: u16, window: Window) -> AskAnswer
     requires { ⌜ stateWords ≤ length (now state) ⌝ }
-    ensures { λ r. ⌜ outcomeOf (askPaper r) (now (memory .exit)) (now (state .exit)) ≡ newMeans (now (memory .entry)) (now (state .entry)) number window ⌝ }
+    ensures { λ r. ⌜ outcomeOf (askPaper r) (lent (now (memory .exit)) (now (state .exit))) ≡ newMeans (now (memory .entry)) (now (state .entry)) number window ⌝ }
 {
     let taken = take(memory, idle_page(state), window);
     match taken {

@@ -11,7 +11,7 @@ use pages::Window;
 ghost use mathlib.Core.Path.{_≡_};
 ghost use Prim.Native.Nat.{_≤_};
 ghost use lib.Dec.{eqb};
-ghost use lib.ListN.{length};
+ghost use lib.ListN.{getD, length};
 ghost use Rattle.histogram.specs.Words.{keptIn, lastIn, stateWords, windowIn};
 ghost use Rattle.histogram.specs.Turns.{nextOf, sameFlag, sameOf, turnOf};
 
@@ -43,9 +43,9 @@ fn turn_after(state: &[u64], number: u16, window: Window) -> Turn
     requires { ⌜ stateWords ≤ length (now state) ⌝ }
     ensures { λ r. ⌜ r ≡ turnOf (lastIn (now (state .entry))) number window ⌝ }
 {
-    if number as u64 == state[NUMBER] {
+    if is_last(state, number) {
         if same_window(state, window) {
-            Turn::LastAsk(state[SUM])
+            last_ask(state)
         } else {
             Turn::OtherWindow
         }
@@ -54,6 +54,22 @@ fn turn_after(state: &[u64], number: u16, window: Window) -> Turn
     } else {
         Turn::OutOfTurn
     }
+}
+
+// Whether a number is that of the kept ask.
+fn is_last(state: &[u64], number: u16) -> bool
+    requires { ⌜ stateWords ≤ length (now state) ⌝ }
+    ensures { λ r. ⌜ r ≡ eqb number (getD (now (state .entry)) 3 0) ⌝ }
+{
+    number as u64 == state[NUMBER]
+}
+
+// The kept ask repeated, with its sum.
+fn last_ask(state: &[u64]) -> Turn
+    requires { ⌜ stateWords ≤ length (now state) ⌝ }
+    ensures { λ r. ⌜ r ≡ Turn.LastAsk (getD (now (state .entry)) 9 0) ⌝ }
+{
+    Turn::LastAsk(state[SUM])
 }
 
 // Whether a number is the one after another: 0 after 65535.

@@ -15,11 +15,12 @@ use Rattle.ground.specs.Bits.{bitsOf}
 use Rattle.ground.specs.Choice.{pick}
 use Rattle.ground.specs.Putting.{put, Copied, copied-all, copied-none, copied-more}
 use Rattle.code.specs.BitLists.{length-bitsOf}
-use Rattle.code.specs.Positions.{getD-bitsOf, length-counted, length-bytesFrom}
+use Rattle.code.specs.Positions.{getD-bitsOf, length-bitsThatCount, length-bytesFrom}
+use Rattle.ground.specs.Outcome.{Outcome, outcomeOf, accept}
 use Rattle.code.specs.Answers.{packedPaper}
 use Rattle.code.specs.Promise.{PackPromise}
-use Rattle.code.specs.Meaning.{largest, codeOf, signOf, shapeOfNumber, bytesWith, putAt, packLeaves, packMeans, counted, dropTaken}
-use Rattle.code.specs.Shapes.{Drop, none, three}
+use Rattle.code.specs.Meaning.{largest, codeOf, signOf, shapeOfNumber, bytesWith, putAt, packMeans, bitsThatCount}
+use Rattle.code.specs.Shapes.{Drop, drop-is-known}
 use Rattle.code.specs.Magnitudes.{number-valid}
 use Rattle.code.specs.Theorems.{packs, put-stands, allBits-shape}
 use Rattle.code.specs.declared.Packed.{Packed}
@@ -143,25 +144,23 @@ value-plus {room} {after} {at} {r} w v e sign m t p =
 
 -- ---- a code
 
--- drop 0 and drop 3 are taken
-taken : {d : ℕ} → Drop d → dropTaken d ≡ true
-taken none = refl
-taken three = refl
-
 module _ {buffer left : List ℕ} {w v : ℤ} {d k : ℕ} {packed : Packed} (four : length buffer ≡ 4) (e : w ≡ v) (small : natAbs v ≤ largest) (dr : Drop d)
     (p : PackPromise buffer 0 w d packed left) (n : k ≡ nextOf (packedPaper packed)) where
   -- four bytes have room for a code
-  with-room : 0 + length (codeOf d v) ≤ length (counted buffer)
-  with-room = omega (arith, length-counted buffer, code-few d v dr small)
+  with-room : 0 + length (codeOf d v) ≤ length (bitsThatCount buffer)
+  with-room = omega (arith, length-bitsThatCount buffer, code-few d v dr small)
 
-  -- the code stands in the bytes
+  -- the code is put at the front
+  outcome : outcomeOf (packedPaper packed) left ≡ accept (0 + length (codeOf d v)) (bytesWith buffer 0 (codeOf d v))
+  outcome = p .outcome ∙ ap (λ (z : ℤ). packMeans buffer 0 z d) e ∙ packs buffer 0 v d (drop-is-known dr) small with-room
+
+  -- it stands in the bytes
   leaves : left ≡ bytesWith buffer 0 (codeOf d v)
-  leaves = p .memory ∙ ap (λ (z : ℤ). packLeaves buffer 0 z d) e ∙ packs buffer 0 v d (taken dr) small with-room .1
+  leaves = ap (λ (o : Outcome ℕ (List ℕ)). o .leaves) outcome
 
   -- the next position is the length of the code
   pub code-next : k ≡ length (codeOf d v)
-  code-next =
-      n ∙ ap nextOf (p .answer ∙ ap (λ (z : ℤ). packMeans buffer 0 z d) e ∙ packs buffer 0 v d (taken dr) small with-room .0) ∙ zero-add (length (codeOf d v))
+  code-next = n ∙ ap (λ (o : Outcome ℕ (List ℕ)). nextOf (o .answer)) outcome ∙ zero-add (length (codeOf d v))
 
   -- the bytes are still four
   pub code-left : length left ≡ 4

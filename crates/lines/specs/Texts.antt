@@ -10,7 +10,7 @@ use lib.IntN.{ℤ, natAbs}
 use lib.ListN.{length, take, drop, length-append, length-map, take-append-drop, replicate, length-replicate}
 use lib.Seq.{length-take-le}
 use Rattle.ground.specs.Choice.{pick-elim}
-use Rattle.ground.specs.Paper.{Paper, accepted, refused, refusedWith}
+use Rattle.ground.specs.Paper.{Paper, accepted, refusal}
 use Rattle.ground.specs.Putting.{put, put-next}
 use Rattle.ground.specs.Bits.{toBits}
 use Rattle.code.specs.Meaning.{Shape, nought, small, mid, big, bits, codeOf, shapeOfNumber, largest, signOf}
@@ -28,8 +28,7 @@ pub record Put (room : List ℕ) (at : ℕ) (text : List ℕ) (next : ℕ) (afte
 -- the position that an accepted writing answers
 abbrev pub nextOf : Paper ℕ → ℕ
 nextOf (accepted n) = n
-nextOf (refused n) = 0
-nextOf (refusedWith n x) = 0
+nextOf (refusal n carried) = 0
 
 -- no text leaves a room as it is
 pub put-nothing : (room : List ℕ) (at : ℕ) → Put room at [] at room

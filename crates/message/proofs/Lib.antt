@@ -1,3 +1,4 @@
 pub mod Numbers
 pub mod Tags
+pub mod Reading
 pub mod Writing

@@ -2,12 +2,10 @@
 -- Assumes nothing.
 use mathlib.Core.Path.{_≡_, refl, sym, _∙_}
 use mathlib.Core.Bool.{true, false}
-use mathlib.Core.List.{List}
 use Prim.Native.Nat.{ℕ, zero, suc, _<_, _≤_, _^_}
-use borrow.Author.Tests.{le-leb, lt-leb, lt-ltb, eq-eqb, ne-eqb}
+use borrow.Author.Tests.{le-leb, lt-leb, lt-ltb}
 use lib.Dec.{leb, ltb}
-use lib.ListN.{getD}
-use Rattle.message.specs.Meaning.{dataSize, sayable, marked}
+use Rattle.message.specs.Meaning.{dataSize, sayable}
 
 -- a tag above 2 stands for eight bytes
 pub eight : (tag : ℕ) → (tag ≡ 0 → ⊥) → (tag ≡ 1 → ⊥) → (tag ≡ 2 → ⊥) → 8 ≡ dataSize tag
@@ -30,14 +28,3 @@ module _ (address tag value : ℕ) where
   -- no bit of a 64-bit value is beyond eight bytes
   pub whole : address ≤ 0x3FFF → tag ≡ 3 → value < 2 ^ 64 → true ≡ sayable address tag value
   whole h is g = sym (lt-ltb value (256 ^ 8) g) ∙ near h is refl
-
--- the mark, byte after byte
-module _ (bytes : List ℕ) where
-  pub unmarked-first : (getD bytes 0 0 ≡ 0x3C → ⊥) → marked bytes ≡ false
-  unmarked-first h = rw (ne-eqb (getD bytes 0 0) 0x3C h)
-
-  pub unmarked-second : getD bytes 0 0 ≡ 0x3C → (getD bytes 1 0 ≡ 0x3D → ⊥) → marked bytes ≡ false
-  unmarked-second e h = rw (eq-eqb (getD bytes 0 0) 0x3C e, ne-eqb (getD bytes 1 0) 0x3D h)
-
-  pub marked-both : getD bytes 0 0 ≡ 0x3C → getD bytes 1 0 ≡ 0x3D → marked bytes ≡ true
-  marked-both e h = rw (eq-eqb (getD bytes 0 0) 0x3C e, eq-eqb (getD bytes 1 0) 0x3D h)

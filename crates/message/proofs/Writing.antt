@@ -1,87 +1,54 @@
 -- The buffer as the writer leaves it, step by step, is the message and what lay past it.
 -- Assumes nothing.
-use mathlib.Core.Path.{_≡_, refl, sym, ap, ap₂, _∙_}
+use mathlib.Core.Path.{_≡_, refl, ap, ap₂, _∙_}
 use mathlib.Core.Bool.{true, false}
 use mathlib.Core.List.{List, _++_}
-use Prim.Native.Nat.{ℕ, _+_, _^_, _<_, _≤_}
+use Prim.Native.Nat.{ℕ, _+_, _<_, _≤_}
 use native.Mathlib.Nat.{add-comm}
 use native.Mathlib.Omega.{arith}
-use borrow.Author.Tests.{lt-ltb, le-ltb, leb-true, ltb-true}
-use lib.ListN.{length, take, drop}
-use lib.Seq.{take-at}
-use Rattle.ground.specs.Questions.{both-hold}
-use Rattle.ground.specs.Paper.{Paper, accepted, refused}
+use borrow.Author.Tests.{lt-ltb, le-ltb}
+use lib.ListN.{length, drop}
+use Rattle.ground.specs.Outcome.{accept, refuse}
 use Rattle.ground.specs.Words.{bytesOf, length-bytesOf}
 use Rattle.ground.specs.Putting.{put, put-next}
-use Rattle.crc.specs.Meaning.{checksumOf}
-use Rattle.message.specs.Meaning.{mark, dataSize, tagWord, covered, messageOf, sayable, writeMeans, writeLeaves}
-
--- an address, a tag and a value within the rule
-pub record Within (address tag value : ℕ) : Type 0 where
-  pub near : address ≤ 0x3FFF
-  pub known : tag ≤ 3
-  pub bits : value < 256 ^ dataSize tag
-
-pub within : (address tag value : ℕ) → sayable address tag value ≡ true → Within address tag value
-within address tag value e =
-    let first = both-hold e in
-    let second = both-hold (first .1) in
-    record { near = leb-true _ _ (first .0); known = leb-true _ _ (second .0); bits = ltb-true _ _ (second .1) }
-
--- what is answered, and what the buffer holds afterwards
-pub record Ends (buffer : List ℕ) (address tag value : ℕ) (paper : Paper ℕ) (after : List ℕ) : Type 0 where
-  pub answer : paper ≡ writeMeans buffer address tag value
-  pub memory : after ≡ writeLeaves buffer address tag value
+use Rattle.crc.specs.Promise.{SealPromise}
+use Rattle.crc.specs.Sealing.{seal-front}
+use Rattle.message.specs.Meaning.{mark, dataSize, tagWord, covered, messageOf, sayable, writeMeans}
+use Rattle.message.specs.ReadBack.{covered-length}
 
 module _ (buffer : List ℕ) (address tag value : ℕ) where
-  pub unsayable : sayable address tag value ≡ false → Ends buffer address tag value (refused 7) buffer
-  unfolding writeMeans writeLeaves
-  unsayable e = record { answer = rw e; memory = rw e }
+  -- an address, a tag or bits outside the rule
+  pub unsayable : sayable address tag value ≡ false → refuse 7 buffer ≡ writeMeans buffer address tag value
+  unfolding writeMeans
+  unsayable e = rw e
 
   module _ (size : ℕ) (is : size ≡ dataSize tag) (said : sayable address tag value ≡ true) where
-    pub too-short : length buffer < size + 6 → Ends buffer address tag value (refused 3) buffer
-    unfolding writeMeans writeLeaves
-    too-short h =
-        record {
-          answer = rw (said, ← is, lt-ltb (length buffer) (size + 6) h);
-          memory = rw (said, ← is, lt-ltb (length buffer) (size + 6) h);
-        }
-
-    data-length : length (bytesOf size value) ≡ size
-    data-length = length-bytesOf size value
-
-    covers : covered address tag value ≡ mark ++ (bytesOf 2 (tagWord address tag) ++ bytesOf size value)
-    covers = ap (λ (k : ℕ). mark ++ (bytesOf 2 (tagWord address tag) ++ bytesOf k value)) (sym is)
-
-    covered-length : length (covered address tag value) ≡ size + 4
-    covered-length = omega (arith, ap length covers, data-length)
+    -- a buffer that is too short
+    pub too-short : length buffer < size + 6 → refuse 3 buffer ≡ writeMeans buffer address tag value
+    unfolding writeMeans
+    too-short h = rw (said, ← is, lt-ltb (length buffer) (size + 6) h)
 
     module _ {l₁ l₂ l₃ : List ℕ} (p : l₁ ≡ put buffer 0 (bytesOf 2 0x3C3D)) (q : l₂ ≡ put l₁ 2 (bytesOf 2 (tagWord address tag)))
         (r : l₃ ≡ put l₂ 4 (bytesOf size value)) where
+      -- mark, word and data, and what lay past them
       filled : l₃ ≡ covered address tag value ++ drop (size + 4) buffer
       filled =
           let words = q ∙ ap (λ (x : List ℕ). put x 2 (bytesOf 2 (tagWord address tag))) p ∙ put-next mark buffer (bytesOf 2 (tagWord address tag)) 2 refl in
+          let covers = ap (λ (k : ℕ). mark ++ (bytesOf 2 (tagWord address tag) ++ bytesOf k value)) is in
           r ∙ ap (λ (x : List ℕ). put x 4 (bytesOf size value)) words
           ∙ put-next (mark ++ bytesOf 2 (tagWord address tag)) buffer (bytesOf size value) 4 refl
-          ∙ ap₂ (λ (x : List ℕ) (k : ℕ). x ++ drop k buffer) (sym covers) (ap (λ (k : ℕ). 4 + k) data-length ∙ add-comm 4 size)
+          ∙ ap₂ (λ (x : List ℕ) (k : ℕ). x ++ drop k buffer) covers (ap (λ (k : ℕ). 4 + k) (length-bytesOf size value) ∙ add-comm 4 size)
 
-      summed : take (size + 4) l₃ ≡ covered address tag value
-      summed = ap (take (size + 4)) filled ∙ take-at (covered address tag value) (drop (size + 4) buffer) (size + 4) covered-length
+      -- the whole message, and what lay past it
+      module _ {l₄ : List ℕ} (h : size + 6 ≤ length buffer) (s : SealPromise l₃ (size + 4) l₄) where
+        whole : l₄ ≡ messageOf address tag value ++ drop (size + 6) buffer
+        unfolding messageOf
+        whole =
+            let past : size + 4 + 2 ≡ size + 6 = omega arith in
+            let long : length (covered address tag value) ≡ size + 4 = omega (arith, covered-length address tag value) in
+            seal-front (covered address tag value) buffer (size + 4) long (omega arith) filled s
+            ∙ ap (λ (k : ℕ). messageOf address tag value ++ drop k buffer) past
 
-      whole : {l₄ : List ℕ} {sum : ℕ} → sum ≡ checksumOf (take (size + 4) l₃) → l₄ ≡ put l₃ (size + 4) (bytesOf 2 sum)
-          → l₄ ≡ messageOf address tag value ++ drop (size + 6) buffer
-      unfolding messageOf
-      whole s t =
-          let past : size + 4 + 2 ≡ size + 6 = omega arith in
-          t ∙ ap₂ (λ (x : List ℕ) (y : ℕ). put x (size + 4) (bytesOf 2 y)) filled (s ∙ ap checksumOf summed)
-          ∙ put-next (covered address tag value) buffer (bytesOf 2 (checksumOf (covered address tag value))) (size + 4) covered-length
-          ∙ ap (λ (k : ℕ). messageOf address tag value ++ drop k buffer) past
-
-      pub done : {l₄ : List ℕ} {sum : ℕ} → size + 6 ≤ length buffer → sum ≡ checksumOf (take (size + 4) l₃)
-          → l₄ ≡ put l₃ (size + 4) (bytesOf 2 sum) → Ends buffer address tag value (accepted (size + 6)) l₄
-      unfolding writeMeans writeLeaves
-      done h s t =
-          record {
-            answer = rw (said, ← is, le-ltb (length buffer) (size + 6) h);
-            memory = rw (said, ← is, le-ltb (length buffer) (size + 6) h) (whole s t);
-          }
+        pub done : accept (size + 6) l₄ ≡ writeMeans buffer address tag value
+        unfolding writeMeans
+        done = rw (said, ← is, le-ltb (length buffer) (size + 6) h) (ap (accept (size + 6)) whole)

@@ -4,7 +4,7 @@ use mathlib.Core.Path.{_≡_, refl}
 use Prim.Native.Nat.{ℕ}
 use lib.Dec.{eqb}
 use Rattle.ground.specs.Choice.{pick}
-use Rattle.ground.specs.Paper.{Paper, accepted, refused, refusedWith}
+use Rattle.ground.specs.Paper.{Paper, accepted, refusal, refused}
 use Rattle.message.specs.Meaning.{ReadValues}
 use Rattle.message.specs.declared.MessageRead.{MessageRead}
 use Rattle.message.specs.declared.MessageRead.the-variants as R
@@ -20,8 +20,7 @@ readPaper R.WrongChecksum = refused 6
 
 abbrev pub readBack : Paper ReadValues → MessageRead
 readBack (accepted m) = R.Message (m .address) (m .tag) (m .value) (m .used)
-readBack (refused n) = pick (eqb n 4) R.WrongMark (pick (eqb n 5) R.CutShort R.WrongChecksum)
-readBack (refusedWith n x) = R.WrongChecksum
+readBack (refusal n carried) = pick (eqb n 4) R.WrongMark (pick (eqb n 5) R.CutShort R.WrongChecksum)
 
 pub read-home : (a : MessageRead) → readBack (readPaper a) ≡ a
 read-home (R.Message a t v u) = refl
@@ -37,8 +36,7 @@ writtenPaper W.BufferTooShort = refused 3
 
 abbrev pub writtenBack : Paper ℕ → MessageWritten
 writtenBack (accepted n) = W.Bytes n
-writtenBack (refused n) = pick (eqb n 7) W.OutsideRule W.BufferTooShort
-writtenBack (refusedWith n x) = W.BufferTooShort
+writtenBack (refusal n carried) = pick (eqb n 7) W.OutsideRule W.BufferTooShort
 
 pub written-home : (a : MessageWritten) → writtenBack (writtenPaper a) ≡ a
 written-home (W.Bytes n) = refl

@@ -7,8 +7,9 @@ use lib.Dec.{leb, ltb, eqb}
 use lib.ListN.{length, take, drop, getD}
 use Rattle.ground.specs.Choice.{pick}
 use Rattle.ground.specs.Paper.{Paper, accepted, refused}
+use Rattle.ground.specs.Outcome.{Outcome, accept, refuse}
 use Rattle.ground.specs.Words.{number, bytesOf, wordAt}
-use Rattle.crc.specs.Meaning.{checksumOf}
+use Rattle.crc.specs.Meaning.{sealedOf, sealedAt}
 
 -- "bytes 3C 3D"
 abbrev pub mark : List ℕ
@@ -29,9 +30,9 @@ tagWord address tag = tag * 2 ^ 14 + address
 abbrev pub covered : ℕ → ℕ → ℕ → List ℕ
 covered address tag value = mark ++ (bytesOf 2 (tagWord address tag) ++ bytesOf (dataSize tag) value)
 
--- ".. checksum": it covers "every byte before it, mark included"
+-- ".. checksum": all that with its checksum behind it
 unfoldable pub messageOf : ℕ → ℕ → ℕ → List ℕ
-messageOf address tag value = covered address tag value ++ bytesOf 2 (checksumOf (covered address tag value))
+messageOf address tag value = sealedOf (covered address tag value)
 
 -- the mark stands at the front
 abbrev pub marked : List ℕ → Bool
@@ -54,7 +55,7 @@ valueAt bytes = number (take (sizeAt bytes) (drop 4 bytes))
 
 -- the checksum of all before it is the word after the data
 abbrev pub checked : List ℕ → Bool
-checked bytes = eqb (checksumOf (take (sizeAt bytes + 4) bytes)) (wordAt bytes (sizeAt bytes + 4))
+checked bytes = sealedAt bytes 0 (sizeAt bytes + 4)
 
 -- what a message says, and "the count used"
 pub record ReadValues : Type 0 where
@@ -76,14 +77,9 @@ readMeans bytes =
 abbrev pub sayable : ℕ → ℕ → ℕ → Bool
 sayable address tag value = leb address 0x3FFF && (leb tag 3 && ltb value (256 ^ dataSize tag))
 
--- writing: 7, then 3; it "answers the bytes written"
-unfoldable pub writeMeans : List ℕ → ℕ → ℕ → ℕ → Paper ℕ
+-- writing: 7, then 3; it "refuses bits beyond the size, answers the bytes written and leaves those past the message"
+unfoldable pub writeMeans : List ℕ → ℕ → ℕ → ℕ → Outcome ℕ (List ℕ)
 writeMeans buffer address tag value =
-    pick (not (sayable address tag value)) (refused 7)
-    (pick (ltb (length buffer) (dataSize tag + 6)) (refused 3) (accepted (dataSize tag + 6)))
-
--- ".. and leaves those past the message"; on a refusal the buffer stays
-unfoldable pub writeLeaves : List ℕ → ℕ → ℕ → ℕ → List ℕ
-writeLeaves buffer address tag value =
-    pick (not (sayable address tag value)) buffer
-    (pick (ltb (length buffer) (dataSize tag + 6)) buffer (messageOf address tag value ++ drop (dataSize tag + 6) buffer))
+    pick (not (sayable address tag value)) (refuse 7 buffer)
+    (pick (ltb (length buffer) (dataSize tag + 6)) (refuse 3 buffer)
+    (accept (dataSize tag + 6) (messageOf address tag value ++ drop (dataSize tag + 6) buffer)))

@@ -3,10 +3,11 @@
 use mathlib.Core.Path.{_≡_}
 use mathlib.Core.List.{List}
 use Prim.Native.Nat.{ℕ}
+use Rattle.ground.specs.Outcome.{outcomeOf}
 use Rattle.message.specs.declared.MessageRead.{MessageRead}
 use Rattle.message.specs.declared.MessageWritten.{MessageWritten}
 use Rattle.message.specs.Answers.{readPaper, writtenPaper}
-use Rattle.message.specs.Meaning.{readMeans, writeMeans, writeLeaves}
+use Rattle.message.specs.Meaning.{readMeans, writeMeans}
 
 -- `read` answers what reading means
 pub record ReadPromise (bytes : List ℕ) (r : MessageRead) : Type 0 where
@@ -14,5 +15,4 @@ pub record ReadPromise (bytes : List ℕ) (r : MessageRead) : Type 0 where
 
 -- `write` answers what writing means, and leaves the buffer as it says
 pub record WritePromise (buffer : List ℕ) (address tag value : ℕ) (r : MessageWritten) (after : List ℕ) : Type 0 where
-  pub answer : writtenPaper r ≡ writeMeans buffer address tag value
-  pub memory : after ≡ writeLeaves buffer address tag value
+  pub outcome : outcomeOf (writtenPaper r) after ≡ writeMeans buffer address tag value

@@ -7,7 +7,6 @@ ghost use Rattle.message.specs.Answers.{readPaper, writtenPaper};
 ghost use Rattle.message.specs.Promise.{ReadPromise, WritePromise};
 use ground::put_word;
 use ground::word_at;
-use parts::checked_front;
 use parts::data_size;
 use parts::number_at;
 use parts::put_number;
@@ -53,7 +52,7 @@ pub fn read(bytes: &[u8]) -> MessageRead
     if bytes.len() < size + 6 {
         return MessageRead::CutShort;
     }
-    if !checked_front(bytes, size) {
+    if !crc::sealed(bytes, 0, size + 4) {
         return MessageRead::WrongChecksum;
     }
     MessageRead::Message {
@@ -78,9 +77,7 @@ pub fn write(buffer: &mut [u8], address: u16, tag: u8, value: u64) -> MessageWri
     put_word(buffer, 0, 0x3C3D);
     put_word(buffer, 2, (tag as u16) * 16384 + address);
     put_number(buffer, 4, size, value);
-    let end = size + 4;
-    let sum = crc::checksum(&buffer[..end]);
-    put_word(buffer, end, sum);
+    crc::seal(buffer, size + 4);
     MessageWritten::Bytes(size + 6)
 }
 

@@ -1,13 +1,10 @@
 // The parts of a message: its tests one by one, and its fields read from bytes and put into a buffer.
 ghost use mathlib.Core.Path.{_≡_};
 ghost use Prim.Native.Nat.{_+_, _≤_, _<_};
-ghost use lib.Dec.{eqb};
 ghost use lib.ListN.{length, take, drop};
-ghost use Rattle.ground.specs.Words.{number, bytesOf, wordAt};
+ghost use Rattle.ground.specs.Words.{number, bytesOf};
 ghost use Rattle.ground.specs.Putting.{put};
-ghost use Rattle.crc.specs.Meaning.{checksumOf};
 ghost use Rattle.message.specs.Meaning.{dataSize, sayable};
-use ground::word_at;
 
 // How many data bytes a size tag stands for.
 pub(crate) fn data_size(tag: u8) -> usize
@@ -35,15 +32,6 @@ pub(crate) fn sayable_as(address: u16, tag: u8, value: u64) -> bool
         3 => true,
         _ => false,
     }
-}
-
-// Whether the checksum after so many data bytes is that of all before it.
-pub(crate) fn checked_front(bytes: &[u8], size: usize) -> bool
-    requires { ⌜ size + 6 ≤ length (now bytes) ⌝ }
-    ensures { λ r. ⌜ r ≡ eqb (checksumOf (take (size + 4) (now (bytes .entry)))) (wordAt (now (bytes .entry)) (size + 4)) ⌝ }
-{
-    let end = size + 4;
-    crc::checksum(&bytes[..end]) == word_at(bytes, end)
 }
 
 // The number that up to eight bytes from a place on mean.

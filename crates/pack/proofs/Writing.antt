@@ -16,17 +16,17 @@ use borrow.Author.Tests.{lt-ltb, le-ltb, le-leb, lt-leb, ltb-true, ltb-false}
 use mir.Syntax.{w64}
 use mir.Val.{Fits}
 use Rattle.ground.specs.Choice.{pick}
-use Rattle.ground.specs.Paper.{accepted, refused}
+use Rattle.ground.specs.Outcome.{accept, refuse}
 use Rattle.ground.specs.Bits.{toBits, bitsOf}
 use Rattle.ground.specs.Putting.{put, put-next}
-use Rattle.code.specs.Meaning.{nought, small, mid, bits, coded, shapeOf, bigOf, leading, leastCoded, signOf, counted, largest, longestRun, toByteEnd}
-use Rattle.code.specs.Meaning.{padded, bytesFrom, bytesWith, codeOf, codeFits, inRule, dropTaken}
+use Rattle.code.specs.Meaning.{nought, small, mid, bits, coded, shapeOf, bigOf, leading, leastCoded, signOf, bitsThatCount, largest, longestRun, toByteEnd}
+use Rattle.code.specs.Meaning.{padded, bytesFrom, bytesWith, codeOf, fitsAt, placeMeans, inRule, dropKnown}
 use Rattle.code.specs.BitLists.{length-toBits, length-bitsOf, toBits-low, toBits-join, toBits-ones, toBits-zeros}
-use Rattle.code.specs.Positions.{length-counted, allBytes, bytes-back}
+use Rattle.code.specs.Positions.{length-bitsThatCount, allBytes, bytes-back}
 use Rattle.code.specs.Magnitudes.{leading-is, exponent-lt, high-lt, field-lt, drop-small}
 use Rattle.code.specs.Shapes.{Drop}
 use Rattle.code.proofs.Numbers.{shift-is}
-use Rattle.pack.specs.Steps.{Holds, byteBits, PlacePromise, placeMeans, placeLeaves}
+use Rattle.pack.specs.Steps.{Holds, byteBits, PlacePromise}
 use Rattle.code.specs.Promise.{PackPromise}
 use Rattle.code.specs.declared.Packed.{Packed}
 use Rattle.code.specs.declared.Packed.the-variants.{Next, OutsideRule as PackedOutsideRule, TooShort}
@@ -267,8 +267,8 @@ byte-stored bytes i number h =
     ∙ ap (λ (n : ℕ). put (bitsOf bytes) (8 * i) (toBits (8 - n) number)) front
 
 -- bytes of one length count as many bits
-pub counted-same : (a b : List ℕ) → length a ≡ length b → length (counted a) ≡ length (counted b)
-counted-same a b e = omega (arith, length-counted a, length-counted b)
+pub same-bits-count : (a b : List ℕ) → length a ≡ length b → length (bitsThatCount a) ≡ length (bitsThatCount b)
+same-bits-count a b e = omega (arith, length-bitsThatCount a, length-bitsThatCount b)
 
 -- nothing has been put yet
 pub put-none : (old : List ℕ) (at count number : ℕ) → bitsOf old ≡ put (bitsOf old) at (toBits (count - count) (number / 2 ^ count))
@@ -293,7 +293,7 @@ put-after l at here a b h e =
     ∙ append-assoc (take at l) (a ++ b) (drop (at + length (a ++ b)) l)
 
 -- one turn of putting bits
-pub put-turn : (old now last : List ℕ) (at count number here left room rest : ℕ) → at + count ≤ length (counted old) → left ≤ count
+pub put-turn : (old now last : List ℕ) (at count number here left room rest : ℕ) → at + count ≤ length (bitsThatCount old) → left ≤ count
     → here ≡ at + (count - left) → left ≡ rest + room
     → bitsOf now ≡ put (bitsOf old) at (toBits (count - left) (number / 2 ^ left))
     → bitsOf last ≡ put (bitsOf now) here (toBits room (number / 2 ^ rest))
@@ -310,12 +310,12 @@ put-turn old now last at count number here left room rest fits few place parts i
     ∙ ap (λ (n : ℕ). toBits (count - left) n ++ next) same) in
     e
     ∙ ap (λ (k : List ℕ). put k here next) inv
-    ∙ put-after l at here first next (omega (arith, length-counted old, length-bitsOf old))
+    ∙ put-after l at here first next (omega (arith, length-bitsThatCount old, length-bitsOf old))
     (omega (arith, place, length-toBits (count - left) (number / 2 ^ left)))
     ∙ ap (put l at) joined
 
 -- bits put in two parts
-pub put-both : (old now last : List ℕ) (at here number count room rest : ℕ) → at + count ≤ length (counted old) → here ≡ at + room → count ≡ rest + room
+pub put-both : (old now last : List ℕ) (at here number count room rest : ℕ) → at + count ≤ length (bitsThatCount old) → here ≡ at + room → count ≡ rest + room
     → bitsOf now ≡ put (bitsOf old) at (toBits room (number / 2 ^ rest)) → bitsOf last ≡ put (bitsOf now) here (toBits rest number)
     → bitsOf last ≡ put (bitsOf old) at (toBits count number)
 put-both old now last at here number count room rest fits place parts e f =
@@ -323,7 +323,7 @@ put-both old now last at here number count room rest fits place parts e f =
     let many : room + rest ≡ count = omega arith in
     f
     ∙ ap (λ (k : List ℕ). put k here (toBits rest number)) e
-    ∙ put-after (bitsOf old) at here first (toBits rest number) (omega (arith, length-counted old, length-bitsOf old))
+    ∙ put-after (bitsOf old) at here first (toBits rest number) (omega (arith, length-bitsThatCount old, length-bitsOf old))
     (place ∙ ap (λ (n : ℕ). at + n) (sym (length-toBits room (number / 2 ^ rest))))
     ∙ ap (put (bitsOf old) at) (sym (toBits-split room rest number) ∙ ap (λ (n : ℕ). toBits n number) many)
 
@@ -397,16 +397,18 @@ mid-field-lt d m dr = high-lt (3 - d) (1 + d) 4 (mod-lt m (pow-pos 4)) (omega (a
 
 -- ---- bits placed in a buffer
 
+-- putting bits, by whether they fit
+place-by : (buffer : List ℕ) (at : ℕ) (l : List ℕ) {t : Bool} → fitsAt buffer at l ≡ t
+    → placeMeans buffer at l ≡ pick t (accept (at + length l) (bytesWith buffer at l)) (refuse 3 buffer)
+place-by buffer at l e = ap (λ (b : Bool). pick b (accept (at + length l) (bytesWith buffer at l)) (refuse 3 buffer)) e
+
 -- they do not fit
-pub place-short : (buffer : List ℕ) (at number count end : ℕ) → end ≡ length (counted buffer) → end < at + count
+pub place-short : (buffer : List ℕ) (at number count end : ℕ) → end ≡ length (bitsThatCount buffer) → end < at + count
     → PlacePromise buffer at (toBits count number) TooShort buffer
 place-short buffer at number count end e h =
-    let t : leb (at + length (toBits count number)) (length (counted buffer)) ≡ false
-    = lt-leb (at + length (toBits count number)) (length (counted buffer)) (omega (arith, length-toBits count number)) in
-    record {
-      answer = sym (ap (λ (b : Bool). pick b (accepted (at + length (toBits count number))) (refused 3)) t);
-      memory = sym (ap (λ (b : Bool). pick b (bytesWith buffer at (toBits count number)) buffer) t);
-    }
+    let t : fitsAt buffer at (toBits count number) ≡ false
+    = lt-leb (at + length (toBits count number)) (length (bitsThatCount buffer)) (omega (arith, length-toBits count number)) in
+    record { outcome = sym (place-by buffer at (toBits count number) t) }
 
 -- a code's number with room for the rest of its last byte
 padded-is : (at number count pad : ℕ) → pad ≡ toByteEnd (at + count)
@@ -417,52 +419,43 @@ padded-is at number count pad e =
     (toBits-zeros pad ∙ ap (λ (n : ℕ). replicate n 0) (e ∙ ap (λ (n : ℕ). toByteEnd (at + n)) (sym (length-toBits count number))))
 
 -- they fit
-pub place-there : (buffer last : List ℕ) (at number count end pad joined : ℕ) → end ≡ length (counted buffer) → at + count ≤ end
+pub place-there : (buffer last : List ℕ) (at number count end pad joined : ℕ) → end ≡ length (bitsThatCount buffer) → at + count ≤ end
     → pad ≡ toByteEnd (at + count) → joined ≡ number * 2 ^ pad + 0 → length last ≡ length buffer → allBytes last
     → bitsOf last ≡ put (bitsOf buffer) at (toBits (count + pad) joined)
     → PlacePromise buffer at (toBits count number) (Next (at + count)) last
 place-there buffer last at number count end pad joined e h p q same ok wrote =
     let l : List ℕ = toBits count number in
-    let t : leb (at + length l) (length (counted buffer)) ≡ true = le-leb (at + length l) (length (counted buffer))
-    (omega (arith, length-toBits count number)) in
+    let t : fitsAt buffer at l ≡ true = le-leb (at + length l) (length (bitsThatCount buffer)) (omega (arith, length-toBits count number)) in
     let code : toBits (count + pad) joined ≡ padded at l = ap (toBits (count + pad)) q ∙ padded-is at number count pad p in
+    let bytes : last ≡ bytesWith buffer at l
+    = sym (bytes-back last ok) ∙ ap₂ (λ (n : ℕ) (k : List ℕ). bytesFrom n k) same (wrote ∙ ap (put (bitsOf buffer) at) code) in
     record {
-      answer =
-          sym (ap (λ (b : Bool). pick b (accepted (at + length l)) (refused 3)) t ∙ ap (λ (n : ℕ). accepted (at + n)) (length-toBits count number));
-      memory =
-          sym (bytes-back last ok)
-          ∙ ap₂ (λ (n : ℕ) (k : List ℕ). bytesFrom n k) same (wrote ∙ ap (put (bitsOf buffer) at) code)
-          ∙ sym (ap (λ (b : Bool). pick b (bytesWith buffer at l) buffer) t);
+      outcome =
+          ap₂ (λ (n : ℕ) (k : List ℕ). accept (at + n) k) (sym (length-toBits count number)) bytes
+          ∙ sym (place-by buffer at l t);
     }
 
 -- ---- a number packed
 
 -- inside the rule
 pub pack-is : (buffer last : List ℕ) (at : ℕ) (v : ℤ) (d w s m number count : ℕ) (r : Packed)
-    → m ≡ natAbs v → s ≡ signOf v → w ≡ d → (dropTaken d && leb m largest) ≡ true
+    → m ≡ natAbs v → s ≡ signOf v → w ≡ d → (dropKnown d && leb m largest) ≡ true
     → Holds number count (bits w (shapeOf w s m)) → PlacePromise buffer at (toBits count number) r last
     → PackPromise buffer at v d r last
 pack-is buffer last at v d w s m number count r em es ew t held placed =
     let code : toBits count number ≡ codeOf d v
     = held .bits-are ∙ ap (λ (n : ℕ). bits n (shapeOf n s m)) ew ∙ ap₂ (λ (a b : ℕ). bits d (shapeOf d a b)) es em in
-    let rule : inRule v d ≡ true = ap (λ (n : ℕ). dropTaken d && leb n largest) (sym em) ∙ t in
+    let rule : inRule v d ≡ true = ap (λ (n : ℕ). dropKnown d && leb n largest) (sym em) ∙ t in
     record {
-      answer =
-          placed .answer
+      outcome =
+          placed .outcome
           ∙ ap (placeMeans buffer at) code
-          ∙ sym (ap (λ (b : Bool). pick b (placeMeans buffer at (codeOf d v)) (refused 8)) rule);
-      memory =
-          placed .memory
-          ∙ ap (placeLeaves buffer at) code
-          ∙ sym (ap (λ (b : Bool). pick (b && codeFits buffer at v d) (bytesWith buffer at (codeOf d v)) buffer) rule);
+          ∙ sym (ap (λ (b : Bool). pick b (placeMeans buffer at (codeOf d v)) (refuse 8 buffer)) rule);
     }
 
 -- outside the rule
-pub pack-refuses : (buffer : List ℕ) (at : ℕ) (v : ℤ) (d m : ℕ) → m ≡ natAbs v → (dropTaken d && leb m largest) ≡ false
+pub pack-refuses : (buffer : List ℕ) (at : ℕ) (v : ℤ) (d m : ℕ) → m ≡ natAbs v → (dropKnown d && leb m largest) ≡ false
     → PackPromise buffer at v d PackedOutsideRule buffer
 pack-refuses buffer at v d m em t =
-    let rule : inRule v d ≡ false = ap (λ (n : ℕ). dropTaken d && leb n largest) (sym em) ∙ t in
-    record {
-      answer = sym (ap (λ (b : Bool). pick b (placeMeans buffer at (codeOf d v)) (refused 8)) rule);
-      memory = sym (ap (λ (b : Bool). pick (b && codeFits buffer at v d) (bytesWith buffer at (codeOf d v)) buffer) rule);
-    }
+    let rule : inRule v d ≡ false = ap (λ (n : ℕ). dropKnown d && leb n largest) (sym em) ∙ t in
+    record { outcome = sym (ap (λ (b : Bool). pick b (placeMeans buffer at (codeOf d v)) (refuse 8 buffer)) rule) }

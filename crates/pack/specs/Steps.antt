@@ -2,13 +2,10 @@
 -- Assumes nothing.
 use mathlib.Core.Path.{_≡_}
 use mathlib.Core.List.{List}
-use Prim.Native.Nat.{ℕ, _+_, _^_, _<_, _≤_}
-use lib.ListN.{length}
-use lib.Dec.{leb}
-use Rattle.ground.specs.Choice.{pick}
-use Rattle.ground.specs.Paper.{Paper, accepted, refused}
+use Prim.Native.Nat.{ℕ, _^_, _<_, _≤_}
+use Rattle.ground.specs.Outcome.{outcomeOf}
 use Rattle.ground.specs.Bits.{toBits}
-use Rattle.code.specs.Meaning.{counted, bytesWith}
+use Rattle.code.specs.Meaning.{placeMeans}
 use Rattle.code.specs.Answers.{packedPaper}
 use Rattle.code.specs.declared.Packed.{Packed}
 
@@ -22,15 +19,6 @@ pub record Holds (number count : ℕ) (l : List ℕ) : Type 0 where
   pub number-fits : number < 2 ^ count
   pub few : count ≤ 33
 
--- the answer to putting bits at a position
-abbrev pub placeMeans : List ℕ → ℕ → List ℕ → Paper ℕ
-placeMeans buffer at l = pick (leb (at + length l) (length (counted buffer))) (accepted (at + length l)) (refused 3)
-
--- what putting bits at a position leaves
-abbrev pub placeLeaves : List ℕ → ℕ → List ℕ → List ℕ
-placeLeaves buffer at l = pick (leb (at + length l) (length (counted buffer))) (bytesWith buffer at l) buffer
-
 -- putting bits answers and leaves what it means
 pub record PlacePromise (buffer : List ℕ) (at : ℕ) (l : List ℕ) (r : Packed) (after : List ℕ) : Type 0 where
-  pub answer : packedPaper r ≡ placeMeans buffer at l
-  pub memory : after ≡ placeLeaves buffer at l
+  pub outcome : outcomeOf (packedPaper r) after ≡ placeMeans buffer at l

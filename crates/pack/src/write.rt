@@ -6,7 +6,7 @@ ghost use lib.ListN.{length, take};
 ghost use mathlib.Core.List.{_++_};
 ghost use Rattle.ground.specs.Bits.{toBits, bitsOf};
 ghost use Rattle.ground.specs.Putting.{put as putOver};
-ghost use Rattle.code.specs.Meaning.{leastCoded, leading as leadingPlace, shapeOf, bits, coded as codedBits, bigOf, counted, toByteEnd, largest, longestRun};
+ghost use Rattle.code.specs.Meaning.{leastCoded, leading as leadingPlace, shapeOf, bits, coded as codedBits, bigOf, bitsThatCount, toByteEnd, largest, longestRun};
 ghost use Rattle.code.specs.Shapes.{Drop};
 ghost use Rattle.pack.specs.Steps.{Holds, PlacePromise, byteBits};
 
@@ -140,7 +140,7 @@ fn to_byte_end(at: u64) -> u32
 
 // Bits that end where a byte ends: as many as the first byte has room for, then whole bytes.
 fn put(buffer: &mut [u8], at: u64, number: u64, count: u32)
-    requires { ⌜ (at + count ≤ length (counted (now buffer))) × (count ≤ 40) × ((at + count) % 8 ≡ 0) × (number < 2 ^ count) ⌝ }
+    requires { ⌜ (at + count ≤ length (bitsThatCount (now buffer))) × (count ≤ 40) × ((at + count) % 8 ≡ 0) × (number < 2 ^ count) ⌝ }
     ensures { λ _. ⌜ bitsOf (now (buffer .exit)) ≡ putOver (bitsOf (now (buffer .entry))) at (toBits count number) ⌝ }
 {
     if 0 < count {
@@ -152,7 +152,7 @@ fn put(buffer: &mut [u8], at: u64, number: u64, count: u32)
 
 // Bits put as whole bytes, from a byte on.
 fn put_bytes(buffer: &mut [u8], first: usize, number: u64, count: u32)
-    requires { ⌜ (8 * first + count ≤ length (counted (now buffer))) × (count ≤ 40) × (count % 8 ≡ 0) ⌝ }
+    requires { ⌜ (8 * first + count ≤ length (bitsThatCount (now buffer))) × (count ≤ 40) × (count % 8 ≡ 0) ⌝ }
     ensures { λ _. ⌜ bitsOf (now (buffer .exit)) ≡ putOver (bitsOf (now (buffer .entry))) (8 * first) (toBits count number) ⌝ }
 {
     let mut left = count;
@@ -188,7 +188,7 @@ fn room_at(at: u64) -> u32
 
 // Bits put at a position, as many as its byte has room for.
 fn put_part(buffer: &mut [u8], at: u64, number: u64)
-    requires { ⌜ (at < length (counted (now buffer))) × (number < 2 ^ (8 - at % 8)) ⌝ }
+    requires { ⌜ (at < length (bitsThatCount (now buffer))) × (number < 2 ^ (8 - at % 8)) ⌝ }
     ensures { λ _. ⌜ bitsOf (now (buffer .exit)) ≡ putOver (bitsOf (now (buffer .entry))) at (toBits (8 - at % 8) number) ⌝ }
 {
     let i = (at / 8) as usize;

@@ -11,47 +11,39 @@ use Rattle.ground.specs.Words.{wordAt}
 use Rattle.ground.specs.Meaning.{lies}
 use Rattle.ground.specs.Promise.{WordPromise}
 use Rattle.ground.specs.Laws.{word-there}
-use Rattle.packet.specs.Meaning.{marked, checked, stands}
+use Rattle.crc.specs.Meaning.{sealedAt}
+use Rattle.packet.specs.Meaning.{marked, stands}
 
 module _ (l : List ℕ) (at : ℕ) where
   pub too-near-the-end : lies l at 10 ≡ false → false ≡ stands l at
   unfolding stands
   too-near-the-end e = rw e
 
-  pub not-marked : lies l at 10 ≡ true → marked l at ≡ false → false ≡ stands l at
-  unfolding stands
-  not-marked a e = rw (a, e)
-
-  module _ (w : ℕ) (p : WordPromise l (at + 4) w) where
-    -- the length word lies in the capture where ten bytes do
-    is : lies l at 10 ≡ true → w ≡ wordAt l (at + 4)
-    is a = word-there p (omega (arith, leb-true (at + 10) (length l) a))
-
-    -- a length word under 4
-    pub too-small : lies l at 10 ≡ true → marked l at ≡ true → w < 4 → false ≡ stands l at
+  module _ (room : lies l at 10 ≡ true) where
+    pub not-marked : marked l at ≡ false → false ≡ stands l at
     unfolding stands
-    too-small a b h = rw (a, b, ← is a, lt-leb 4 w h)
+    not-marked e = rw (room, e)
 
-    -- a length word with a top bit set
-    pub too-large : lies l at 10 ≡ true → marked l at ≡ true → 4 ≤ w → 8192 ≤ w → false ≡ stands l at
-    unfolding stands
-    too-large a b g h = rw (a, b, ← is a, le-leb 4 w g, le-ltb w 8192 h)
+    module _ (mark : marked l at ≡ true) {w : ℕ} (p : WordPromise l (at + 4) w) where
+      -- the length word lies in the capture where ten bytes do
+      is : w ≡ wordAt l (at + 4)
+      is = word-there p (omega (arith, leb-true (at + 10) (length l) room))
 
-    -- the size by the length word, and by n
-    size : 4 ≤ w → w + 6 ≡ w - 4 + 10
-    size g = omega arith
+      -- a length word under 4
+      pub too-small : w < 4 → false ≡ stands l at
+      unfolding stands
+      too-small h = rw (room, mark, ← is, lt-leb 4 w h)
 
-    -- a packet that is cut by the end
-    pub not-whole : lies l at 10 ≡ true → marked l at ≡ true → 4 ≤ w → w < 8192 → lies l at (w + 6) ≡ false → false ≡ stands l at
-    unfolding stands
-    not-whole a b g h e = rw (a, b, ← is a, le-leb 4 w g, lt-ltb w 8192 h, ← size g, e)
+      -- a length word with a top bit set
+      pub too-large : 4 ≤ w → 8192 ≤ w → false ≡ stands l at
+      unfolding stands
+      too-large g h = rw (room, mark, ← is, le-leb 4 w g, le-ltb w 8192 h)
 
-    -- where all lies in the capture, the checksum settles it
-    pub up-to-checksum : lies l at 10 ≡ true → marked l at ≡ true → 4 ≤ w → w < 8192 → lies l at (w + 6) ≡ true
-        → checked l at (w - 4) ≡ stands l at
-    unfolding stands
-    up-to-checksum a b g h e = rw (a, b, ← is a, le-leb 4 w g, lt-ltb w 8192 h, ← size g, e)
+      -- what the checksum covers, by the length word and by n
+      size : 4 ≤ w → w + 4 ≡ w - 4 + 8
+      size g = omega arith
 
-    -- what a checksum is formed over lies in the capture
-    pub whole : 4 ≤ w → lies l at (w + 6) ≡ true → at + (w - 4 + 10) ≤ length l
-    whole g e = omega (arith, leb-true (at + (w + 6)) (length l) e)
+      -- where mark and length agree, the checksum settles it
+      pub up-to-checksum : 4 ≤ w → w < 8192 → sealedAt l at (w + 4) ≡ stands l at
+      unfolding stands
+      up-to-checksum g h = rw (room, mark, ← is, le-leb 4 w g, lt-ltb w 8192 h, ← size g)

@@ -9,42 +9,25 @@ use borrow.Author.Tests.{lt-ltb, le-ltb}
 use borrow.Rule.Slice.PartMut.{putMid, post-is}
 use lib.ListN.{length, take, drop}
 use lib.Seq.{take-at, drop-at, drop-drop}
-use Rattle.ground.specs.Paper.{accepted, refused}
-use Rattle.ground.specs.Words.{bytesOf}
-use Rattle.crc.specs.Meaning.{checksumOf}
-use Rattle.packet.specs.Meaning.{covered, packetOf, writeMeans, writeLeaves}
-use Rattle.ground.specs.Putting.{put, put-next}
+use Rattle.ground.specs.Outcome.{accept, refuse}
+use Rattle.crc.specs.Promise.{SealPromise}
+use Rattle.crc.specs.Sealing.{seal-front}
+use Rattle.packet.specs.Meaning.{covered, packetOf, writeMeans}
 use Rattle.packet.specs.Putting.{headOf}
+use Rattle.packet.specs.ReadBack.{covered-length}
 
--- more data than a packet takes
-pub record TooMuch (buffer : List ℕ) (apid : ℕ) (payload : List ℕ) : Type 0 where
-  pub answer : refused 2 ≡ writeMeans buffer payload
-  pub memory : buffer ≡ writeLeaves buffer apid payload
-
-pub too-much : (buffer : List ℕ) (apid : ℕ) (payload : List ℕ) → 8187 < length payload → TooMuch buffer apid payload
-unfolding writeMeans writeLeaves
-too-much buffer apid payload h =
-    record { answer = rw (lt-ltb 8187 (length payload) h); memory = rw (lt-ltb 8187 (length payload) h) }
-
--- a buffer that is too short
-pub record TooShort (buffer : List ℕ) (apid : ℕ) (payload : List ℕ) : Type 0 where
-  pub answer : refused 3 ≡ writeMeans buffer payload
-  pub memory : buffer ≡ writeLeaves buffer apid payload
-
-pub too-short : (buffer : List ℕ) (apid : ℕ) (payload : List ℕ) → length payload ≤ 8187 → length buffer < length payload + 10
-    → TooShort buffer apid payload
-unfolding writeMeans writeLeaves
-too-short buffer apid payload g h =
-    record {
-      answer = rw (le-ltb 8187 (length payload) g, lt-ltb (length buffer) (length payload + 10) h);
-      memory = rw (le-ltb 8187 (length payload) g, lt-ltb (length buffer) (length payload + 10) h);
-    }
-
--- the data in the middle, after the header
 module _ (buffer : List ℕ) (apid : ℕ) (payload : List ℕ) where
-  covered-length : length (covered apid payload) ≡ length payload + 8
-  covered-length = omega arith
+  -- more data than a packet takes
+  pub too-much : 8187 < length payload → refuse 2 buffer ≡ writeMeans buffer apid payload
+  unfolding writeMeans
+  too-much h = rw (lt-ltb 8187 (length payload) h)
 
+  -- a buffer that is too short
+  pub too-short : length payload ≤ 8187 → length buffer < length payload + 10 → refuse 3 buffer ≡ writeMeans buffer apid payload
+  unfolding writeMeans
+  too-short g h = rw (le-ltb 8187 (length payload) g, lt-ltb (length buffer) (length payload + 10) h)
+
+  -- the data in the middle, after the header
   filled : {head part : List ℕ} → head ≡ headOf (length payload + 4) apid ++ drop 8 buffer → part ≡ payload
       → putMid 8 (length payload + 8 - 8) head part ≡ covered apid payload ++ drop (length payload + 8) buffer
   filled {head} {part} p q =
@@ -60,33 +43,16 @@ module _ (buffer : List ℕ) (apid : ℕ) (payload : List ℕ) where
       ∙ ap (λ (k : ℕ). drop k buffer) (add-comm 8 n))
       ∙ sym (append-assoc h payload (drop (n + 8) buffer))
 
-  -- what the checksum is formed over
-  pub summed : {head part : List ℕ} → head ≡ headOf (length payload + 4) apid ++ drop 8 buffer → part ≡ payload
-      → take (length payload + 8) (putMid 8 (length payload + 8 - 8) head part) ≡ covered apid payload
-  summed p q =
-      ap (take (length payload + 8)) (filled p q)
-      ∙ take-at (covered apid payload) (drop (length payload + 8) buffer) (length payload + 8) covered-length
-
   -- the whole packet, and what lay past it
-  pub record Done (after : List ℕ) : Type 0 where
-    pub answer : accepted (length payload + 10) ≡ writeMeans buffer payload
-    pub memory : after ≡ writeLeaves buffer apid payload
-
-  pub done : {head part after : List ℕ} {sum : ℕ} → length payload ≤ 8187 → length payload + 10 ≤ length buffer
+  pub done : {head part after : List ℕ} → length payload ≤ 8187 → length payload + 10 ≤ length buffer
       → head ≡ headOf (length payload + 4) apid ++ drop 8 buffer → part ≡ payload
-      → sum ≡ checksumOf (take (length payload + 8) (putMid 8 (length payload + 8 - 8) head part))
-      → after ≡ put (putMid 8 (length payload + 8 - 8) head part) (length payload + 8) (bytesOf 2 sum)
-      → Done after
-  unfolding writeMeans writeLeaves packetOf
-  done {head} {part} {after} {sum} g h p q s t =
+      → SealPromise (putMid 8 (length payload + 8 - 8) head part) (length payload + 8) after
+      → accept (length payload + 10) after ≡ writeMeans buffer apid payload
+  unfolding writeMeans packetOf
+  done {after = after} g h p q s =
       let n = length payload in
       let past : n + 8 + 2 ≡ n + 10 = omega arith in
       let whole : after ≡ packetOf apid payload ++ drop (n + 10) buffer =
-      t
-      ∙ ap₂ (λ (x : List ℕ) (y : ℕ). put x (n + 8) (bytesOf 2 y)) (filled p q) (s ∙ ap checksumOf (summed p q))
-      ∙ put-next (covered apid payload) buffer (bytesOf 2 (checksumOf (covered apid payload))) (n + 8) covered-length
+      seal-front (covered apid payload) buffer (n + 8) (covered-length apid payload) (omega arith) (filled p q) s
       ∙ ap (λ (k : ℕ). packetOf apid payload ++ drop k buffer) past in
-      record {
-        answer = rw (le-ltb 8187 n g, le-ltb (length buffer) (n + 10) h);
-        memory = rw (le-ltb 8187 n g, le-ltb (length buffer) (n + 10) h) whole;
-      }
+      rw (le-ltb 8187 n g, le-ltb (length buffer) (n + 10) h) (ap (accept (n + 10)) whole)

@@ -4,26 +4,20 @@ use mathlib.Core.Path.{_≡_, refl}
 use mathlib.Core.Bool.{Bool, true, false, not, _&&_}
 use mathlib.Core.List.{List, []}
 use Prim.Native.Nat.{ℕ, _+_}
-use native.Mathlib.Omega.{arith}
 use denote.Ref.{RefT}
-use lib.ListN.{length, take, drop, length-take, length-drop}
+use lib.ListN.{length, take, drop}
 use Rattle.ground.specs.Choice.{pick}
-use Rattle.ground.specs.Paper.{Paper, accepted, refused, refusedWith}
+use Rattle.ground.specs.Paper.{Paper, accepted, refusal, refused}
 use Rattle.packet.specs.declared.Headed.{Headed}
 use Rattle.packet.specs.Answers.{headedPaper}
 use Rattle.packet.specs.Promise.{HeaderPromise, PayloadPromise}
 use Rattle.packet.specs.Meaning.{tooLong, stands, dataLength, apidAt, headerMeans, payloadMeans, payloadStart, HeaderValues}
-use Rattle.packet.specs.Laws.{Standing, standing}
+use Rattle.packet.specs.Laws.{standing, data-long}
 
 -- what the header's answer says of the part: empty on a refusal; n bytes from 8 after the place where it answers n
 abbrev pub Agrees : Paper HeaderValues → List ℕ → ℕ → ℕ → Type 0
 Agrees (accepted v) part start at = (length part ≡ v .length) × (start ≡ at + 8)
-Agrees (refused k) part start at = part ≡ []
-Agrees (refusedWith k x) part start at = part ≡ []
-
--- n bytes from 8 after the place lie in the capture
-data-long : (l : List ℕ) (at : ℕ) → Standing l at → length (take (dataLength l at) (drop (at + 8) l)) ≡ dataLength l at
-data-long l at s = simp (length-take, length-drop) (omega (arith, s .whole))
+Agrees (refusal k carried) part start at = part ≡ []
 
 agrees-by : (l : List ℕ) (at : ℕ) (t b : Bool) → tooLong l ≡ t → stands l at ≡ b
     → Agrees (pick t (refused 1) (pick b (accepted (record { apid = apidAt l at; length = dataLength l at })) (refused 20)))

@@ -3,8 +3,9 @@
 use mathlib.Core.Path.{_≡_, refl}
 use Prim.Native.Nat.{ℕ}
 use lib.Dec.{eqb}
+use lib.ListN.{getD}
 use Rattle.ground.specs.Choice.{pick}
-use Rattle.ground.specs.Paper.{Paper, accepted, refused, refusedWith}
+use Rattle.ground.specs.Paper.{Paper, accepted, refusal, refused, refusedWith}
 use Rattle.packet.specs.Meaning.{FoundValues, HeaderValues}
 use Rattle.packet.specs.declared.Found.{Found}
 use Rattle.packet.specs.declared.Found.the-variants as F
@@ -21,8 +22,7 @@ foundPaper F.TooLong = refused 1
 
 abbrev pub foundBack : Paper FoundValues → Found
 foundBack (accepted v) = F.At (v .place) (v .skipped)
-foundBack (refused n) = F.TooLong
-foundBack (refusedWith n s) = F.Nothing s
+foundBack (refusal n carried) = pick (eqb n 1) F.TooLong (F.Nothing (getD carried 0 0))
 
 pub found-home : (a : Found) → foundBack (foundPaper a) ≡ a
 found-home (F.At p s) = refl
@@ -37,8 +37,7 @@ headedPaper H.TooLong = refused 1
 
 abbrev pub headedBack : Paper HeaderValues → Headed
 headedBack (accepted v) = H.Packet (v .apid) (v .length)
-headedBack (refused n) = pick (eqb n 20) H.NoPacket H.TooLong
-headedBack (refusedWith n x) = H.TooLong
+headedBack (refusal n carried) = pick (eqb n 20) H.NoPacket H.TooLong
 
 pub headed-home : (a : Headed) → headedBack (headedPaper a) ≡ a
 headed-home (H.Packet a n) = refl
@@ -53,8 +52,7 @@ writtenPaper W.BufferTooShort = refused 3
 
 abbrev pub writtenBack : Paper ℕ → Written
 writtenBack (accepted n) = W.Bytes n
-writtenBack (refused n) = pick (eqb n 2) W.TooMuchData W.BufferTooShort
-writtenBack (refusedWith n x) = W.BufferTooShort
+writtenBack (refusal n carried) = pick (eqb n 2) W.TooMuchData W.BufferTooShort
 
 pub written-home : (a : Written) → writtenBack (writtenPaper a) ≡ a
 written-home (W.Bytes n) = refl

@@ -1,44 +1,45 @@
 -- What holds where a packet stands, and how finding goes on: what callers cite.
 -- Assumes nothing.
-use mathlib.Core.Path.{_≡_}
+use mathlib.Core.Path.{_≡_, refl}
 use mathlib.Core.Bool.{true, false}
 use mathlib.Core.List.{List}
 use Prim.Native.Nat.{ℕ, suc, _+_, _-_, _<_, _≤_}
 use native.Mathlib.Numerals.{add-one}
 use native.Mathlib.Omega.{arith}
-use borrow.Author.Tests.{leb-true, ltb-true, eqb-true, le-leb, lt-ltb, eq-eqb}
-use lib.ListN.{length, take, drop}
+use borrow.Author.Tests.{leb-true, ltb-true, le-leb, lt-ltb}
+use lib.Dec.{ltb}
+use lib.ListN.{length, take, drop, length-take, length-drop}
 use Rattle.ground.specs.Questions.{both-hold}
+use Rattle.ground.specs.Choice.{pick-elim}
 use Rattle.ground.specs.Paper.{accepted, refusedWith}
+use Rattle.ground.specs.Outcome.{Stays}
 use Rattle.ground.specs.Words.{wordAt}
-use Rattle.crc.specs.Meaning.{checksumOf}
-use Rattle.packet.specs.Meaning.{marked, dataLength, stands, failedBefore, findFrom}
+use Rattle.ground.specs.Meaning.{lies}
+use Rattle.crc.specs.Meaning.{sealedAt}
+use Rattle.crc.specs.Sealing.{sealed-lies}
+use Rattle.packet.specs.Meaning.{marked, sized, dataLength, stands, failedBefore, findFrom, writeMeans}
 
--- mark, length and checksum agree at a place
+-- mark, length and checksum agree at a place, and all of it lies in the capture
 pub record Standing (l : List ℕ) (at : ℕ) : Type 0 where
-  pub room : at + 10 ≤ length l
   pub mark : marked l at ≡ true
   pub least : 4 ≤ wordAt l (at + 4)
   pub most : wordAt l (at + 4) < 8192
   pub whole : at + (dataLength l at + 10) ≤ length l
-  pub sum : checksumOf (take (dataLength l at + 8) (drop at l)) ≡ wordAt l (at + (dataLength l at + 8))
+  pub sealed : sealedAt l at (dataLength l at + 8) ≡ true
 
 -- where the test says that a packet stands, all of it holds
 pub standing : (l : List ℕ) (at : ℕ) → stands l at ≡ true → Standing l at
 unfolding stands
 standing l at e =
-    let inside = both-hold e in
-    let marks = both-hold (inside .1) in
-    let sizes = both-hold (marks .1) in
+    let marks = both-hold {a = marked l at} (both-hold {a = lies l at 10} e .1) in
+    let sizes = both-hold {a = sized (wordAt l (at + 4))} (marks .1) in
     let word = both-hold (sizes .0) in
-    let ends = both-hold (sizes .1) in
     record {
-      room = leb-true _ _ (inside .0);
       mark = marks .0;
       least = leb-true _ _ (word .0);
       most = ltb-true _ _ (word .1);
-      whole = leb-true _ _ (ends .0);
-      sum = eqb-true _ _ (ends .1);
+      whole = omega (arith, sealed-lies l at (dataLength l at + 8) (sizes .1));
+      sealed = sizes .1;
     }
 
 -- where all of it holds, the test says that a packet stands
@@ -46,13 +47,16 @@ pub stands-so : (l : List ℕ) (at : ℕ) → Standing l at → stands l at ≡ 
 unfolding stands
 stands-so l at s =
     rw (
-      le-leb (at + 10) (length l) (s .room),
+      le-leb (at + 10) (length l) (omega (arith, s .whole)),
       s .mark,
       le-leb 4 (wordAt l (at + 4)) (s .least),
       lt-ltb (wordAt l (at + 4)) 8192 (s .most),
-      le-leb (at + (dataLength l at + 10)) (length l) (s .whole),
-      eq-eqb (checksumOf (take (dataLength l at + 8) (drop at l))) (wordAt l (at + (dataLength l at + 8))) (s .sum),
+      s .sealed,
     )
+
+-- the data of a packet that stands has n bytes
+pub data-long : (l : List ℕ) (at : ℕ) → Standing l at → length (take (dataLength l at) (drop (at + 8) l)) ≡ dataLength l at
+data-long l at s = simp (length-take, length-drop) (omega (arith, s .whole))
 
 -- a place at which no packet stands is one failed place more
 pub failed-more : (l : List ℕ) (at : ℕ) → stands l at ≡ false → failedBefore l at ≡ at → failedBefore l (at + 1) ≡ at + 1
@@ -77,3 +81,10 @@ pub find-none : (l : List ℕ) (at : ℕ) → length l ≤ at → findFrom l at 
 find-none l at h =
     let left : length l - at ≡ 0 = omega arith in
     rw left
+
+-- demand 1 of writing: where it is refused, the buffer is as it was
+pub write-stays : (buffer : List ℕ) (apid : ℕ) (payload : List ℕ) → Stays buffer (writeMeans buffer apid payload)
+unfolding writeMeans
+write-stays buffer apid payload =
+    pick-elim (Stays buffer) (ltb 8187 (length payload)) _ _ (λ large f. refl)
+    (λ small. pick-elim (Stays buffer) (ltb (length buffer) (length payload + 10)) _ _ (λ short f. refl) (λ room f. absurd (f refl)))

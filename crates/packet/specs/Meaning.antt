@@ -7,9 +7,10 @@ use lib.Dec.{leb, ltb, eqb}
 use lib.ListN.{length, take, drop, getD}
 use Rattle.ground.specs.Choice.{pick}
 use Rattle.ground.specs.Paper.{Paper, accepted, refused, refusedWith}
+use Rattle.ground.specs.Outcome.{Outcome, accept, refuse}
 use Rattle.ground.specs.Words.{bytesOf, wordAt}
-use Rattle.crc.specs.Meaning.{checksumOf}
 use Rattle.ground.specs.Meaning.{lies}
+use Rattle.crc.specs.Meaning.{sealedOf, sealedAt}
 
 -- "bytes BE BA CA FE"
 abbrev pub mark : List ℕ
@@ -19,9 +20,9 @@ mark = 0xBE ∷ 0xBA ∷ 0xCA ∷ 0xFE ∷ []
 abbrev pub covered : ℕ → List ℕ → List ℕ
 covered apid payload = mark ++ (bytesOf 2 (length payload + 4) ++ (bytesOf 2 apid ++ payload))
 
--- ".. checksum": it covers "every byte before it, mark included"
+-- ".. checksum": all that with its checksum behind it
 unfoldable pub packetOf : ℕ → List ℕ → List ℕ
-packetOf apid payload = covered apid payload ++ bytesOf 2 (checksumOf (covered apid payload))
+packetOf apid payload = sealedOf (covered apid payload)
 
 -- the mark stands at a place
 abbrev pub marked : List ℕ → ℕ → Bool
@@ -41,15 +42,10 @@ dataLength capture at = wordAt capture (at + 4) - 4
 abbrev pub apidAt : List ℕ → ℕ → ℕ
 apidAt capture at = wordAt capture (at + 6)
 
--- the checksum of n data bytes and all before them is the word after them
-abbrev pub checked : List ℕ → ℕ → ℕ → Bool
-checked capture at n = eqb (checksumOf (take (n + 8) (drop at capture))) (wordAt capture (at + (n + 8)))
-
 -- "A packet stands at a place in a capture if all of it lies in the capture and all these hold."
 unfoldable pub stands : List ℕ → ℕ → Bool
 stands capture at =
-    lies capture at 10 && (marked capture at && (sized (wordAt capture (at + 4))
-    && (lies capture at (dataLength capture at + 10) && checked capture at (dataLength capture at))))
+    lies capture at 10 && (marked capture at && (sized (wordAt capture (at + 4)) && sealedAt capture at (dataLength capture at + 8)))
 
 -- a capture of more than 65,536 bytes is not looked into
 abbrev pub tooLong : List ℕ → Bool
@@ -98,14 +94,9 @@ payloadStart capture at = pick (handed capture at) (at + 8) 0
 unfoldable pub payloadMeans : List ℕ → ℕ → List ℕ
 payloadMeans capture at = pick (handed capture at) (take (dataLength capture at) (drop (at + 8) capture)) []
 
--- writing: 2, then 3; "It answers n+10"
-unfoldable pub writeMeans : List ℕ → List ℕ → Paper ℕ
-writeMeans buffer payload =
-    pick (ltb 8187 (length payload)) (refused 2)
-    (pick (ltb (length buffer) (length payload + 10)) (refused 3) (accepted (length payload + 10)))
-
--- "those bytes read back as the packet; bytes past them keep what they held"; on a refusal the buffer stays
-unfoldable pub writeLeaves : List ℕ → ℕ → List ℕ → List ℕ
-writeLeaves buffer apid payload =
-    pick (ltb 8187 (length payload)) buffer
-    (pick (ltb (length buffer) (length payload + 10)) buffer (packetOf apid payload ++ drop (length payload + 10) buffer))
+-- writing: 2, then 3; "It answers n+10, and those bytes read back as the packet; bytes past them keep what they held."
+unfoldable pub writeMeans : List ℕ → ℕ → List ℕ → Outcome ℕ (List ℕ)
+writeMeans buffer apid payload =
+    pick (ltb 8187 (length payload)) (refuse 2 buffer)
+    (pick (ltb (length buffer) (length payload + 10)) (refuse 3 buffer)
+    (accept (length payload + 10) (packetOf apid payload ++ drop (length payload + 10) buffer)))

@@ -5,6 +5,7 @@ use mathlib.Core.List.{List}
 use Prim.Native.Nat.{ℕ}
 use denote.Ref.{RefT}
 use Rattle.ground.specs.Paper.{numberOf, one-answer, one-value}
+use Rattle.ground.specs.Outcome.{outcome-one}
 use Rattle.packet.specs.declared.Found.{Found}
 use Rattle.packet.specs.declared.Headed.{Headed}
 use Rattle.packet.specs.declared.Written.{Written}
@@ -28,7 +29,7 @@ payload-one p q =
 -- a buffer, an APID and data leave one answer and one buffer
 pub write-one : {buffer : List ℕ} {apid : ℕ} {payload : List ℕ} {r s : Written} {m n : List ℕ}
     → WritePromise buffer apid payload r m → WritePromise buffer apid payload s n → (r ≡ s) × (m ≡ n)
-write-one p q = (one-answer writtenPaper writtenBack written-home (p .answer) (q .answer), one-value (p .memory) (q .memory))
+write-one p q = outcome-one writtenPaper writtenBack written-home (p .outcome) (q .outcome)
 
 -- one number for an answer
 pub found-number-one : (answer : Found) {m n : ℕ} → m ≡ numberOf (foundPaper answer) → n ≡ numberOf (foundPaper answer) → m ≡ n

@@ -4,11 +4,12 @@ use mathlib.Core.Path.{_≡_}
 use mathlib.Core.List.{List}
 use Prim.Native.Nat.{ℕ, _+_}
 use denote.Ref.{RefT}
+use Rattle.ground.specs.Outcome.{outcomeOf}
 use Rattle.packet.specs.declared.Found.{Found}
 use Rattle.packet.specs.declared.Headed.{Headed}
 use Rattle.packet.specs.declared.Written.{Written}
 use Rattle.packet.specs.Answers.{foundPaper, headedPaper, writtenPaper}
-use Rattle.packet.specs.Meaning.{findMeans, headerMeans, payloadStart, payloadMeans, writeMeans, writeLeaves}
+use Rattle.packet.specs.Meaning.{findMeans, headerMeans, payloadStart, payloadMeans, writeMeans}
 
 -- `find` answers what finding means
 pub record FindPromise (capture : List ℕ) (r : Found) : Type 0 where
@@ -26,5 +27,4 @@ pub record PayloadPromise (capture : RefT (List ℕ)) (at : ℕ) (r : RefT (List
 
 -- `write` answers what writing means, and leaves the buffer as it says
 pub record WritePromise (buffer : List ℕ) (apid : ℕ) (payload : List ℕ) (r : Written) (after : List ℕ) : Type 0 where
-  pub answer : writtenPaper r ≡ writeMeans buffer payload
-  pub memory : after ≡ writeLeaves buffer apid payload
+  pub outcome : outcomeOf (writtenPaper r) after ≡ writeMeans buffer apid payload

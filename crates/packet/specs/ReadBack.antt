@@ -1,21 +1,31 @@
 -- "those bytes read back as the packet": whatever follows in the buffer.
 -- Assumes nothing.
 use mathlib.Core.Path.{_≡_, refl, sym, ap, ap₂, _∙_}
-use mathlib.Core.Bool.{Bool, true, false}
-use mathlib.Core.List.{List, _++_, append-assoc}
+use mathlib.Core.Bool.{true}
+use mathlib.Core.List.{List, _++_}
 use Prim.Native.Nat.{ℕ, _+_, _-_, _^_, _<_, _≤_}
-use native.Mathlib.Nat.{zero-add, sub-zero}
+use native.Mathlib.Nat.{sub-zero}
 use native.Mathlib.Omega.{arith}
 use borrow.Author.Tests.{le-ltb, ltb-false}
 use lib.Dec.{ltb}
-use lib.ListN.{length, take, drop, length-append}
-use lib.Seq.{take-at, drop-at}
-use Rattle.ground.specs.Paper.{accepted}
-use Rattle.ground.specs.Words.{number, bytesOf, wordAt, number-bytesOf}
-use Rattle.crc.specs.Meaning.{checksumOf}
-use Rattle.crc.specs.Laws.{checksum-lt}
-use Rattle.packet.specs.Meaning.{covered, packetOf, dataLength, stands, findFrom, findMeans, headerMeans, payloadMeans, writeMeans, writeLeaves}
+use lib.ListN.{length, take, drop}
+use lib.Seq.{take-at}
+use Rattle.ground.specs.Choice.{pick-elim}
+use Rattle.ground.specs.Paper.{accepted, accepted-same, refused-not}
+use Rattle.ground.specs.Outcome.{Outcome, accept, refuse}
+use Rattle.ground.specs.Words.{bytesOf, wordAt, number-bytesOf}
+use Rattle.crc.specs.Meaning.{checksumOf, sealedOf, sealedAt}
+use Rattle.crc.specs.Sealing.{length-sealed, sealed-front, sealed-stands, sealed-lies}
+use Rattle.packet.specs.Meaning.{covered, packetOf, dataLength, stands, findFrom, findMeans, headerMeans, payloadMeans, writeMeans}
 use Rattle.packet.specs.Laws.{Standing, stands-so, find-here}
+
+-- what the checksum covers has n+8 bytes, the whole packet n+10
+pub covered-length : (apid : ℕ) (payload : List ℕ) → length (covered apid payload) ≡ length payload + 8
+covered-length apid payload = omega arith
+
+pub packet-length : (apid : ℕ) (payload : List ℕ) → length (packetOf apid payload) ≡ length payload + 10
+unfolding packetOf
+packet-length apid payload = omega (arith, length-sealed (covered apid payload), covered-length apid payload)
 
 -- a written packet and whatever follows it
 abbrev pub written : ℕ → List ℕ → List ℕ → List ℕ
@@ -24,48 +34,29 @@ written apid payload rest = packetOf apid payload ++ rest
 module _ (apid : ℕ) (payload rest : List ℕ) (small : length payload ≤ 8187) (word : apid < 2 ^ 16) where
   -- the length word says n+4
   length-word : wordAt (written apid payload rest) 4 ≡ length payload + 4
-  unfolding packetOf
+  unfolding packetOf sealedOf
   length-word = number-bytesOf 2 (length payload + 4) (omega arith)
 
   data-length : dataLength (written apid payload rest) 0 ≡ length payload
   data-length = let same : length payload + 4 - 4 ≡ length payload = omega arith in ap (λ (w : ℕ). w - 4) length-word ∙ same
 
-  covered-length : length (covered apid payload) ≡ length payload + 8
-  covered-length = omega arith
-
-  -- the packet is what the checksum covers, the checksum, and what follows
-  parts : written apid payload rest ≡ covered apid payload ++ (bytesOf 2 (checksumOf (covered apid payload)) ++ rest)
+  -- the checksum is that of all before it
+  summed : sealedAt (written apid payload rest) 0 (length payload + 8) ≡ true
   unfolding packetOf
-  parts = append-assoc (covered apid payload) (bytesOf 2 (checksumOf (covered apid payload))) rest
-
-  -- what the checksum was formed over, and the word that holds it
-  summed : take (length payload + 8) (written apid payload rest) ≡ covered apid payload
-  summed =
-      ap (take (length payload + 8)) parts
-      ∙ take-at (covered apid payload) (bytesOf 2 (checksumOf (covered apid payload)) ++ rest) (length payload + 8) covered-length
-
-  sum-word : wordAt (written apid payload rest) (length payload + 8) ≡ checksumOf (covered apid payload)
-  sum-word =
-      ap (λ (l : List ℕ). number (take 2 l))
-      (ap (drop (length payload + 8)) parts
-      ∙ drop-at (covered apid payload) (bytesOf 2 (checksumOf (covered apid payload)) ++ rest) (length payload + 8) covered-length)
-      ∙ number-bytesOf 2 (checksumOf (covered apid payload)) (checksum-lt (covered apid payload))
+  summed = sealed-stands (written apid payload rest) 0 (covered apid payload) rest (length payload + 8) refl (covered-length apid payload)
 
   long : length payload + 10 ≤ length (written apid payload rest)
-  long = omega (arith, ap length parts, length-append (covered apid payload) (bytesOf 2 (checksumOf (covered apid payload)) ++ rest))
+  long = omega (arith, sealed-lies (written apid payload rest) 0 (length payload + 8) summed)
 
   all-holds : Standing (written apid payload rest) 0
-  unfolding packetOf
+  unfolding packetOf sealedOf
   all-holds =
       record {
-        room = omega (arith, long);
         mark = refl;
         least = omega (arith, length-word);
         most = omega (arith, length-word);
         whole = omega (arith, long, data-length);
-        sum =
-            ap (λ (n : ℕ). checksumOf (take (n + 8) (written apid payload rest))) data-length ∙ ap checksumOf summed ∙ sym sum-word
-            ∙ ap (wordAt (written apid payload rest)) (sym (zero-add (length payload + 8)) ∙ ap (λ (n : ℕ). 0 + (n + 8)) (sym data-length));
+        sealed = ap (λ (n : ℕ). sealedAt (written apid payload rest) 0 (n + 8)) data-length ∙ summed;
       }
 
   -- a written packet stands at place 0
@@ -83,7 +74,7 @@ module _ (apid : ℕ) (payload rest : List ℕ) (small : length payload ≤ 8187
 
     -- `header` answers its APID and n
     pub written-header : headerMeans (written apid payload rest) 0 ≡ accepted (record { apid = apid; length = length payload })
-    unfolding headerMeans packetOf
+    unfolding headerMeans packetOf sealedOf
     written-header =
         rw (le-ltb 65536 (length (written apid payload rest)) fits, written-stands)
         (ap₂ (λ (a n : ℕ). accepted (record { apid = a; length = n })) (number-bytesOf 2 apid word) data-length)
@@ -92,34 +83,36 @@ module _ (apid : ℕ) (payload rest : List ℕ) (small : length payload ≤ 8187
     pub written-payload : payloadMeans (written apid payload rest) 0 ≡ payload
     unfolding payloadMeans packetOf
     written-payload =
-        let sum = bytesOf 2 (checksumOf (covered apid payload)) in
+        let past = bytesOf 2 (checksumOf (covered apid payload)) ++ rest in
         rw (le-ltb 65536 (length (written apid payload rest)) fits, written-stands)
-        (ap (λ (n : ℕ). take n ((payload ++ sum) ++ rest)) data-length
-        ∙ ap (take (length payload)) (append-assoc payload sum rest)
-        ∙ take-at payload (sum ++ rest) (length payload) refl)
+        (ap (λ (n : ℕ). take n (drop 8 (written apid payload rest))) data-length
+        ∙ ap (λ (l : List ℕ). take (length payload) (drop 8 l)) (sealed-front (covered apid payload) rest)
+        ∙ take-at payload past (length payload) refl)
 
 -- writing was accepted: the data was small enough, the buffer long enough, and it holds the packet and what lay past it
-pub record Accepted (buffer : List ℕ) (apid : ℕ) (payload : List ℕ) (n : ℕ) : Type 0 where
+pub record Accepted (buffer : List ℕ) (apid : ℕ) (payload : List ℕ) (n : ℕ) (after : List ℕ) : Type 0 where
   pub small : length payload ≤ 8187
   pub room : length payload + 10 ≤ length buffer
   pub count : n ≡ length payload + 10
-  pub leaves : writeLeaves buffer apid payload ≡ written apid payload (drop (length payload + 10) buffer)
+  pub leaves : after ≡ written apid payload (drop (length payload + 10) buffer)
 
--- what an accepted answer of writing says
-pub write-accepted : (buffer : List ℕ) (apid : ℕ) (payload : List ℕ) {n : ℕ} → writeMeans buffer payload ≡ accepted n
-    → Accepted buffer apid payload n
-unfolding writeMeans writeLeaves
-write-accepted buffer apid payload {n} =
-    go (ltb 8187 (length payload)) (ltb (length buffer) (length payload + 10)) refl refl
+-- what an accepted outcome of writing says
+pub write-accepted : (buffer : List ℕ) (apid : ℕ) (payload : List ℕ) {n : ℕ} {after : List ℕ} → accept n after ≡ writeMeans buffer apid payload
+    → Accepted buffer apid payload n after
+unfolding writeMeans
+write-accepted buffer apid payload {n} {after} =
+    pick-elim Says (ltb 8187 (length payload)) _ _ (λ large. refuses)
+    (λ small. pick-elim Says (ltb (length buffer) (length payload + 10)) _ _ (λ short. refuses)
+    (λ room e.
+    record {
+      small = ltb-false 8187 (length payload) small;
+      room = ltb-false (length buffer) (length payload + 10) room;
+      count = accepted-same (ap (λ (o : Outcome ℕ (List ℕ)). o .answer) e);
+      leaves = ap (λ (o : Outcome ℕ (List ℕ)). o .leaves) e;
+    }))
   where
-    go : (s t : Bool) → ltb 8187 (length payload) ≡ s → ltb (length buffer) (length payload + 10) ≡ t
-        → writeMeans buffer payload ≡ accepted n → Accepted buffer apid payload n
-    go true t e f a = let z : _≡_ {A = ℕ} 0 1 = cc (rw e at a) in absurd (omega arith)
-    go false true e f a = let z : _≡_ {A = ℕ} 0 1 = cc (rw (e, f) at a) in absurd (omega arith)
-    go false false e f a =
-        record {
-          small = ltb-false 8187 (length payload) e;
-          room = ltb-false (length buffer) (length payload + 10) f;
-          count = cc (rw (e, f) at a);
-          leaves = rw (e, f);
-        }
+    Says : Outcome ℕ (List ℕ) → Type 0
+    Says o = accept n after ≡ o → Accepted buffer apid payload n after
+
+    refuses : {k : ℕ} → Says (refuse k buffer)
+    refuses e = absurd (refused-not (sym (ap (λ (o : Outcome ℕ (List ℕ)). o .answer) e)))

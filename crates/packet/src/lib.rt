@@ -7,7 +7,6 @@ ghost use Prim.Native.Nat.{_+_};
 ghost use Rattle.ground.specs.Paper.{numberOf};
 ghost use Rattle.packet.specs.Answers.{foundPaper, headedPaper, writtenPaper};
 ghost use Rattle.packet.specs.Promise.{FindPromise, HeaderPromise, PayloadPromise, WritePromise};
-use ground::put_word;
 use ground::word_at;
 use parts::copied;
 use parts::data_length;
@@ -102,8 +101,7 @@ pub fn write(buffer: &mut [u8], apid: u16, payload: &[u8]) -> Written
     put_header(buffer, (n + 4) as u16, apid);
     let end = n + 8;
     copied(&mut buffer[8..end], payload);
-    let sum = crc::checksum(&buffer[..end]);
-    put_word(buffer, end, sum);
+    crc::seal(buffer, end);
     Written::Bytes(n + 10)
 }
 

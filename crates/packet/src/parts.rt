@@ -5,7 +5,7 @@ ghost use mathlib.Core.List.{_++_};
 ghost use Prim.Native.Nat.{_+_, _≤_};
 ghost use lib.ListN.{length, drop};
 ghost use Rattle.packet.specs.Putting.{headOf};
-ghost use Rattle.packet.specs.Meaning.{marked, dataLength, checked, stands};
+ghost use Rattle.packet.specs.Meaning.{marked, dataLength, stands};
 use ground::lies_in;
 use ground::put_word;
 use ground::word_at;
@@ -27,10 +27,7 @@ pub(crate) fn stands_at(capture: &[u8], place: usize) -> bool
     if 8192 <= word {
         return false;
     }
-    if !lies_in(capture, place, word + 6) {
-        return false;
-    }
-    checked_at(capture, place, word - 4)
+    crc::sealed(capture, place, word + 4)
 }
 
 // The number of data bytes of the packet that stands at a place.
@@ -56,15 +53,6 @@ fn marked_at(capture: &[u8], place: usize) -> bool
         return false;
     }
     capture[place + 3] == 0xFE
-}
-
-// Whether the checksum after n data bytes is that of all before it.
-fn checked_at(capture: &[u8], place: usize, n: usize) -> bool
-    requires { ⌜ place + (n + 10) ≤ length (now capture) ⌝ }
-    ensures { λ r. ⌜ r ≡ checked (now (capture .entry)) place n ⌝ }
-{
-    let end = place + (n + 8);
-    crc::checksum(&capture[place..end]) == word_at(capture, end)
 }
 
 // Puts a packet's header at the front: the mark, the length word and the APID.

@@ -4,11 +4,10 @@ use mathlib.Core.Path.{_≡_, ap, sym, _∙_}
 use mathlib.Core.Bool.{Bool, true, false}
 use mathlib.Core.List.{List}
 use Prim.Native.Nat.{ℕ, _/_, _≤_, _<_}
-use native.Mathlib.Omega.{arith}
 use lib.ListN.{length}
 use borrow.Author.Tests.{lt-ltb, le-ltb}
-use Rattle.ground.specs.Paper.{Paper, accepted, refused}
-use Rattle.pages.specs.Meaning.{Walk, cellsOf, checkMeans, lastOf, soundOf, takeMeans, windowWalk}
+use Rattle.ground.specs.Paper.{Paper, accepted, refused, refused-not}
+use Rattle.pages.specs.Meaning.{cellsOf, checkMeans, lastOf, soundOf, takeMeans, walkAt, walkTaken, windowWalk}
 use Rattle.pages.specs.Answers.{checkedPaper, takenPaper}
 use Rattle.pages.specs.Outcomes.{check-elim}
 use Rattle.pages.specs.Promise.{CheckPromise, TakePromise}
@@ -41,15 +40,16 @@ pub sound-inside : (m : List ℕ) (p : Bool) (w : Window) → checkMeans m p w �
 sound-inside m p w =
     check-elim (λ (a : Paper (Unit {0})). a ≡ accepted tt → lastOf w < length m / 2) m p w
     (λ h e. h)
-    (λ n h e. absurd (let z : _≡_ {A = ℕ} 0 1 = cc in omega arith))
+    (λ n h e. absurd (refused-not e))
 
 -- a window refused by the check is not taken, and the memory stays
-pub not-taken : (m : List ℕ) (p : Bool) (w : Window) (r : Taken) {n : ℕ} → checkMeans m p w ≡ refused n → takenPaper r ≡ refused n → TakePromise m p w r m
+pub not-taken : (m : List ℕ) (p : Bool) (w : Window) (r : Taken) {n : ℕ} → checkMeans m p w ≡ refused n → takenPaper r ≡ refused n
+    → TakePromise m p w r m
 unfolding takeMeans
-not-taken m p w r e f = record { answer = rw e f; memory = rw e }
+not-taken m p w r e f = record { outcome = rw (e, f) }
 
 -- a sound window taken: walked, and its sum answered
 pub walked : (m : List ℕ) (p : Bool) (w : Window) (sum : ℕ) (after : List ℕ) → checkMeans m p w ≡ accepted tt
-    → _≡_ {A = Walk} (record { memory = after; sum = sum }) (windowWalk m p w) → TakePromise m p w (Taken.Sum sum) after
+    → walkAt after sum ≡ windowWalk m p w → TakePromise m p w (Taken.Sum sum) after
 unfolding takeMeans
-walked m p w sum after e f = record { answer = rw e (ap (λ (x : Walk). accepted (x .sum)) f); memory = rw e (ap (λ (x : Walk). x .memory) f) }
+walked m p w sum after e f = record { outcome = rw e (ap walkTaken f) }

@@ -4,7 +4,7 @@ use mathlib.Core.Path.{_≡_, refl}
 use Prim.Native.Nat.{ℕ}
 use lib.Dec.{eqb}
 use Rattle.ground.specs.Choice.{pick}
-use Rattle.ground.specs.Paper.{Paper, accepted, refused, refusedWith}
+use Rattle.ground.specs.Paper.{Paper, accepted, refusal, refused}
 use Rattle.pages.specs.declared.CountAnswer.{CountAnswer}
 use Rattle.pages.specs.declared.Checked.{Checked}
 use Rattle.pages.specs.declared.Taken.{Taken}
@@ -19,8 +19,7 @@ countPaper CountAnswer.AboveFull = refused 16
 -- the way back from counting's paper
 abbrev pub countBack : Paper (Unit {0}) → CountAnswer
 countBack (accepted x) = CountAnswer.Counted
-countBack (refused n) = pick (eqb n 14) CountAnswer.WrongAddress (pick (eqb n 15) CountAnswer.Full CountAnswer.AboveFull)
-countBack (refusedWith n x) = CountAnswer.WrongAddress
+countBack (refusal n carried) = pick (eqb n 14) CountAnswer.WrongAddress (pick (eqb n 15) CountAnswer.Full CountAnswer.AboveFull)
 
 -- there and back is where it began
 pub count-home : (a : CountAnswer) → countBack (countPaper a) ≡ a
@@ -44,8 +43,7 @@ takenPaper Taken.AboveFull = refused 16
 -- the way back from taking's paper
 abbrev pub takenBack : Paper ℕ → Taken
 takenBack (accepted sum) = Taken.Sum sum
-takenBack (refused n) = pick (eqb n 14) Taken.WrongCell Taken.AboveFull
-takenBack (refusedWith n x) = Taken.WrongCell
+takenBack (refusal n carried) = pick (eqb n 14) Taken.WrongCell Taken.AboveFull
 
 -- there and back is where it began
 pub taken-home : (a : Taken) → takenBack (takenPaper a) ≡ a

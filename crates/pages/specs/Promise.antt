@@ -1,10 +1,11 @@
--- What each public call promises of its answer and the memory at exit: one record a call.
+-- What each public call promises of its answer and the memory at exit: one equation a call.
 -- Assumes nothing.
 use mathlib.Core.Bool.{Bool}
 use mathlib.Core.Path.{_≡_}
 use mathlib.Core.List.{List}
 use Prim.Native.Nat.{ℕ}
 use lib.ListN.{length, replicate}
+use Rattle.ground.specs.Outcome.{outcomeOf}
 use Rattle.pages.specs.Meaning.{checkMeans, countMeans, sizedOf, takeMeans}
 use Rattle.pages.specs.Answers.{checkedPaper, countPaper, takenPaper}
 use Rattle.pages.specs.declared.Window.{Window}
@@ -22,8 +23,7 @@ pub record ClearPromise (before after : List ℕ) : Type 0 where
 
 -- what counting promises
 pub record CountPromise (before : List ℕ) (page : Bool) (address : ℕ) (r : CountAnswer) (after : List ℕ) : Type 0 where
-  pub answer : countPaper r ≡ countMeans before page address .answer
-  pub memory : after ≡ countMeans before page address .memory
+  pub outcome : outcomeOf (countPaper r) after ≡ countMeans before page address
 
 -- what checking a window promises, which taking it asks first and which is no public call; the memory is lent unchangeable
 pub record CheckPromise (before : List ℕ) (page : Bool) (w : Window) (r : Checked) : Type 0 where
@@ -31,5 +31,4 @@ pub record CheckPromise (before : List ℕ) (page : Bool) (w : Window) (r : Chec
 
 -- what taking a window promises
 pub record TakePromise (before : List ℕ) (page : Bool) (w : Window) (r : Taken) (after : List ℕ) : Type 0 where
-  pub answer : takenPaper r ≡ takeMeans before page w .answer
-  pub memory : after ≡ takeMeans before page w .memory
+  pub outcome : outcomeOf (takenPaper r) after ≡ takeMeans before page w

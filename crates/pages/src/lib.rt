@@ -6,7 +6,7 @@ ghost use Rattle.pages.specs.Promise.{SizedPromise, ClearPromise, CountP
 use layout::place;
 use walk::last_cell;
 use walk::sound_rows;
-use walk::walk_rows;
+use walk::walk_window;
 
 // A window of counters: cells in rows, and whether an ask of it clears them.
 pub struct Window {
@@ -92,7 +92,7 @@ pub fn take(memory: &mut [u32], second: bool, window: Window) -> Taken
 {
     let checked = check(memory, second, window);
     match checked {
-        Checked::Sound => Taken::Sum(walk_rows(memory, second, window)),
+        Checked::Sound => Taken::Sum(walk_window(memory, second, window)),
         Checked::WrongCell => Taken::WrongCell,
         Checked::AboveFull => Taken::AboveFull,
     }

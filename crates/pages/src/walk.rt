@@ -5,7 +5,7 @@ ghost use Prim.Native.Nat.{_+_, _*_, _/_, _≤_, _<_};
 ghost use lib.Dec.{leb};
 ghost use lib.ListN.{length, getD, set};
 ghost use Rattle.ground.specs.Choice.{pick};
-ghost use Rattle.pages.specs.Meaning.{cellsOf, full, lastOf, rowOf, soundOf, walkOf, Walk};
+ghost use Rattle.pages.specs.Meaning.{cellsOf, full, lastOf, rowOf, rowStart, soundOf, walkAt, walkOf, windowWalk};
 use crate::FULL;
 use crate::Window;
 use crate::layout::place;
@@ -34,14 +34,21 @@ pub(crate) fn sound_rows(memory: &[u32], page: bool, window: Window) -> bool
     ok
 }
 
-// Visits every cell of a window in order, and answers the sum.
-pub(crate) fn walk_rows(memory: &mut [u32], page: bool, window: Window) -> u64
+// Takes a window in one pass: each visit adds what the word holds then, and sets it to 0 at once where the window clears.
+pub(crate) fn walk_window(memory: &mut [u32], page: bool, window: Window) -> u64
     requires { ⌜ lastOf window < length (now memory) / 2 ⌝ }
-    ensures { λ r. ⌜ record { memory = now (memory .exit); sum = r } ≡ walkOf page (window .clear) (record { memory = now (memory .entry); sum = 0 }) (cellsOf window) ⌝ }
+    ensures { λ r. ⌜ walkAt (now (memory .exit)) r ≡ windowWalk (now (memory .entry)) page window ⌝ }
+{
+    walk_rows(memory, page, window.clear, window)
+}
+
+// Visits every cell of a window in order, and answers the sum.
+fn walk_rows(memory: &mut [u32], page: bool, clear: bool, window: Window) -> u64
+    requires { ⌜ lastOf window < length (now memory) / 2 ⌝ }
+    ensures { λ r. ⌜ walkAt (now (memory .exit)) r ≡ walkOf page clear (walkAt (now (memory .entry)) 0) (cellsOf window) ⌝ }
 {
     let width = window.xsize as usize + 1;
     let rows = window.ysize as usize + 1;
-    let clear = window.clear;
     let mut sum = 0;
     let mut row = 0;
     while row < rows {
@@ -55,7 +62,7 @@ pub(crate) fn walk_rows(memory: &mut [u32], page: bool, window: Window) -> u64
 // The address of a row's first cell.
 fn row_start(window: Window, row: usize) -> usize
     requires { ⌜ row < 256 ⌝ }
-    ensures { λ r. ⌜ (r ≡ window .address + row * (window .xsize + window .ystride)) × (r < 8589934592) ⌝ }
+    ensures { λ r. ⌜ (r ≡ rowStart window row) × (r < 8589934592) ⌝ }
 {
     let step = row_step(window);
     window.address as usize + row * step
@@ -93,7 +100,8 @@ fn walk_row(
     sum: u64,
 ) -> u64
     requires { ⌜ (start + width ≤ length (now memory) / 2) × (width ≤ 256) × (sum ≤ 281474976710656) ⌝ }
-    ensures { λ r. ⌜ (record { memory = now (memory .exit); sum = r } ≡ walkOf page clear (record { memory = now (memory .entry); sum = sum }) (rowOf start width)) × (r ≤ sum + width * 4294967296) ⌝ }
+    ensures { λ r. ⌜ walkAt (now (memory .exit)) r ≡ walkOf page clear (walkAt (now (memory .entry)) sum) (rowOf start width) ⌝ }
+    ensures { λ r. ⌜ r ≤ sum + width * 4294967296 ⌝ }
 {
     let mut total = sum;
     let mut column = 0;
@@ -108,7 +116,8 @@ fn walk_row(
 // Answers what the word at a place holds, and sets it to 0 where the ask clears.
 fn visit(memory: &mut [u32], at: usize, clear: bool) -> u64
     requires { ⌜ at < length (now memory) ⌝ }
-    ensures { λ r. ⌜ (r ≡ getD (now (memory .entry)) at 0) × (r < 4294967296) × (now (memory .exit) ≡ pick clear (set (now (memory .entry)) at 0) (now (memory .entry))) ⌝ }
+    ensures { λ r. ⌜ (r ≡ getD (now (memory .entry)) at 0) × (r < 4294967296) ⌝ }
+    ensures { λ _. ⌜ now (memory .exit) ≡ pick clear (set (now (memory .entry)) at 0) (now (memory .entry)) ⌝ }
 {
     let word = memory[at] as u64;
     if clear {

@@ -38,4 +38,4 @@ module _ (capture part : List ℕ) (at : ℕ) (e : part ≡ payloadMeans capture
       let both = both-hold {a = not (tooLong capture)} {b = stands capture at} (was-handed n) in
       let s = standing capture at (both .1) in
       let short : length capture ≤ 65536 = ltb-false 65536 (length capture) (answered-no {r = tooLong capture} refl (both .0)) in
-      omega (arith, s .room)
+      omega (arith, s .whole)

@@ -11,8 +11,9 @@ use Prim.Native.Nat.{ℕ}
 use lib.Dec.{T}
 use mir.Val.{hasKey}
 use types.Run.{OneOf, miss}
-use Rattle.ground.specs.Paper.{Paper, accepted, refused, refusedWith, numberOf}
-use Rattle.plavotesk.specs.Meaning.{toldAs}
+use Rattle.ground.specs.Outcome.{Outcome, outcomeOf}
+use Rattle.ground.specs.Paper.{Paper, accepted, refusal, refused, numberOf}
+use Rattle.plavotesk.specs.Meaning.{toldAs, toldWith}
 use Rattle.plavotesk.specs.Promise.{Sentence}
 
 -- what is told, with the memory that the call leaves
@@ -30,8 +31,7 @@ module _ {A X : Type 0} (places : A → X) (held : X) {R : Type 0} (paper : R �
       → (p : Paper A) → back p ≡ a → n ≡ numberOf p → _≡_ {A = ℕ × X} (n, held) (toldAs places p held)
   unfolding toldAs
   by-paper other back never o (accepted v) e k = absurd (never v (subst other (sym e) o))
-  by-paper other back never o (refused m) e k = ap (λ (x : ℕ). (x, held)) k
-  by-paper other back never o (refusedWith m x) e k = ap (λ (y : ℕ). (y, held)) k
+  by-paper other back never o (refusal m carried) e k = ap (λ (x : ℕ). (x, held)) k
 
   -- the case that was met is one of several that are refused, by other keys than the accepted one's: the number, and what the places held
   pub refuses : (back : Paper A → R) (home : (a : R) → back (paper a) ≡ a) (tag : R → ℕ) (keys : List ℕ)
@@ -48,6 +48,19 @@ module _ {A X : Type 0} (places : A → X) (held : X) {R : Type 0} (paper : R �
   refuses-as p e r k =
       ap (λ (x : ℕ). (x, held)) (k ∙ ap numberOf (ap paper e ∙ r))
       ∙ ap (λ (q : Paper A). toldAs places q held) (sym (ap paper e ∙ r) ∙ p)
+
+module _ {A L : Type 0} (held : A) {R : Type 0} (paper : R → Paper A) (a : R) {after : L} {o : Outcome A L} (p : outcomeOf (paper a) after ≡ o) where
+  -- the same with what the call leaves: accepted
+  pub accepts-with : {s : R} {values : A} → a ≡ s → paper s ≡ accepted values → _≡_ {A = (ℕ × A) × L} ((0, values), after) (toldWith o held)
+  accepts-with e v = with-memory (accepts (λ (x : A). x) held paper (ap (λ (x : Outcome A L). x .answer) p) e v) (ap (λ (x : Outcome A L). x .leaves) p)
+
+  -- refused, by other keys than the accepted one's
+  pub refuses-with : (back : Paper A → R) (home : (x : R) → back (paper x) ≡ x) (tag : R → ℕ) (keys : List ℕ)
+      → ((v : A) → T (not (hasKey keys (tag (back (accepted v)))))) → {n : ℕ} → OneOf keys (tag a) → n ≡ numberOf (paper a)
+      → _≡_ {A = (ℕ × A) × L} ((n, held), after) (toldWith o held)
+  refuses-with back home tag keys never one k =
+      with-memory (refuses (λ (x : A). x) held paper back home tag keys never a one (ap (λ (x : Outcome A L). x .answer) p) k)
+      (ap (λ (x : Outcome A L). x .leaves) p)
 
 module _ {Holds : Paper ℕ → Type 0} (held : ℕ) {R : Type 0} (paper : R → Paper ℕ) where
   -- the same of a call by a sentence

@@ -5,9 +5,10 @@ use mathlib.Core.List.{List}
 use Prim.Native.Nat.{ℕ}
 use lib.Dec.{eqb}
 use lib.Ieee.{Float}
-use lib.ListN.{length}
+use lib.ListN.{getD, length}
 use Rattle.ground.specs.Choice.{pick}
-use Rattle.ground.specs.Paper.{Paper, accepted, refused, refusedWith}
+use Rattle.ground.specs.Outcome.{Outcome}
+use Rattle.ground.specs.Paper.{Paper, accepted, refusal}
 use Rattle.packet.specs.Meaning.{FoundValues, payloadMeans, payloadStart}
 use Rattle.pages.specs.declared.Window.{Window}
 use Rattle.histogram.specs.Meaning.{Value, done, new, again}
@@ -17,18 +18,20 @@ use Rattle.rate.specs.declared.record.Reading.the-variants.{Exact, Between}
 -- "Each returns its number, and nothing else unless said above": 0 and what the values say where accepted; the number, and what the places held, where refused
 unfoldable pub toldAs : {A X : Type 0} → (A → X) → Paper A → X → ℕ × X
 toldAs places (accepted values) held = (0, places values)
-toldAs places (refused n) held = (n, held)
-toldAs places (refusedWith n x) held = (n, held)
+toldAs places (refusal n carried) held = (n, held)
 
 -- the places hold the values themselves
 abbrev pub told : {A : Type 0} → Paper A → A → ℕ × A
 told {A} means held = toldAs (λ (values : A). values) means held
 
+-- the same with what the call leaves of what it was lent
+abbrev pub toldWith : {A L : Type 0} → Outcome A L → A → (ℕ × A) × L
+toldWith o held = (told (o .answer) held, o .leaves)
+
 -- "it refuses by 20 with skipped equal to the capture's length": the bytes skipped come with a refusal that carries them
 abbrev pub toldFound : Paper FoundValues → FoundValues → ℕ × FoundValues
 toldFound (accepted values) held = (0, values)
-toldFound (refused n) held = (n, held)
-toldFound (refusedWith n x) held = (n, record { place = held .place; skipped = x })
+toldFound (refusal n carried) held = (n, record { place = held .place; skipped = getD carried 0 (held .skipped) })
 
 -- "its data as a part of the caller's capture": where the part starts, and its bytes; an empty part is told as 0 and 0
 abbrev pub partOf : List ℕ → ℕ → ℕ × ℕ
@@ -56,8 +59,7 @@ abbrev pub toldAsk : Paper Value → AskValues → AskValues
 toldAsk (accepted done) held = held
 toldAsk (accepted (new sum)) held = record { sum = sum; again = 0 }
 toldAsk (accepted (again sum)) held = record { sum = sum; again = 1 }
-toldAsk (refused n) held = held
-toldAsk (refusedWith n x) held = held
+toldAsk (refusal n carried) held = held
 
 -- a window by its numbers: clear 0 keeps, any other number clears
 abbrev pub windowOf : ℕ → ℕ → ℕ → ℕ → ℕ → Window

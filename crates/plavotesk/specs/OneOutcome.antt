@@ -7,7 +7,7 @@ use lib.IntN.{ℤ}
 use Rattle.ground.specs.Paper.{Paper, one-value}
 use Rattle.packet.specs.Meaning.{FoundValues, HeaderValues}
 use Rattle.message.specs.Meaning.{ReadValues}
-use Rattle.code.specs.Meaning.{Taken}
+use Rattle.code.specs.Meaning.{UnpackValues}
 use Rattle.rate.specs.Meaning.{RateValues}
 use Rattle.format.specs.Meaning.{floatValue}
 use Rattle.format.specs.Codes.{takes-one}
@@ -53,7 +53,7 @@ plv-message-write-one buffer address tag value held o p = one-value
 pub plv-code-pack-one : (buffer : List ℕ) (at : ℕ) (value : ℤ) (drop held : ℕ) → One (CodePackPromise buffer at value drop held)
 plv-code-pack-one buffer at value drop held o p = one-value
 
-pub plv-code-unpack-one : (bytes : List ℕ) (at drop : ℕ) (held : Taken) → One (CodeUnpackPromise bytes at drop held)
+pub plv-code-unpack-one : (bytes : List ℕ) (at drop : ℕ) (held : UnpackValues) → One (CodeUnpackPromise bytes at drop held)
 plv-code-unpack-one bytes at drop held o p = one-value
 
 pub plv-reading-one : (bytes : List ℕ) (at drop : ℕ) (held : Edges) → One (ReadingPromise bytes at drop held)

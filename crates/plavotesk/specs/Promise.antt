@@ -6,15 +6,15 @@ use mathlib.Core.List.{List}
 use Prim.Native.Nat.{ℕ, _^_}
 use lib.IntN.{ℤ}
 use Rattle.ground.specs.Paper.{Paper, numberOf}
-use Rattle.packet.specs.Meaning.{FoundValues, HeaderValues, findMeans, headerMeans, writeMeans, writeLeaves}
-use Rattle.message.specs.Meaning.{ReadValues, readMeans, writeMeans as messageMeans, writeLeaves as messageLeaves}
-use Rattle.code.specs.Meaning.{Taken, packMeans, packLeaves, unpackMeans}
+use Rattle.packet.specs.Meaning.{FoundValues, HeaderValues, findMeans, headerMeans, writeMeans}
+use Rattle.message.specs.Meaning.{ReadValues, readMeans, writeMeans as messageMeans}
+use Rattle.code.specs.Meaning.{UnpackValues, packMeans, unpackMeans}
 use Rattle.rate.specs.Meaning.{ReadingValues, RateValues, readingMeans, rateMeans}
 use Rattle.format.specs.Meaning.{floatValue, Takes, int24Means}
 use Rattle.cadence.specs.Meaning.{Begins, Ends, secondsMeans}
 use Rattle.pages.specs.declared.Window.{Window}
-use Rattle.histogram.specs.Meaning.{Outcome, askMeans, flipMeans, incrementMeans, openMeans}
-use Rattle.plavotesk.specs.Meaning.{toldAs, told, toldFound, partOf, Edges, edgesOf, AskValues, toldAsk}
+use Rattle.histogram.specs.Meaning.{CallOutcome, askMeans, flipMeans, incrementMeans, openMeans}
+use Rattle.plavotesk.specs.Meaning.{toldAs, told, toldWith, toldFound, partOf, Edges, edgesOf, AskValues, toldAsk}
 
 -- finding: the first packet's place, and the bytes skipped before it, with 20 as well
 abbrev pub PacketFindPromise : List ℕ → FoundValues → ℕ × FoundValues → Type 0
@@ -30,7 +30,7 @@ PacketPayloadPromise capture place o = o ≡ partOf capture place
 
 -- writing a packet: the bytes written; the buffer
 abbrev pub PacketWritePromise : List ℕ → ℕ → List ℕ → ℕ → (ℕ × ℕ) × List ℕ → Type 0
-PacketWritePromise buffer apid payload held o = o ≡ (told (writeMeans buffer payload) held, writeLeaves buffer apid payload)
+PacketWritePromise buffer apid payload held o = o ≡ toldWith (writeMeans buffer apid payload) held
 
 -- reading a message: the address, the size tag, the value, the bytes used
 abbrev pub MessageReadPromise : List ℕ → ReadValues → ℕ × ReadValues → Type 0
@@ -38,14 +38,14 @@ MessageReadPromise bytes held o = o ≡ told (readMeans bytes) held
 
 -- writing a message: the bytes written; the buffer
 abbrev pub MessageWritePromise : List ℕ → ℕ → ℕ → ℕ → ℕ → (ℕ × ℕ) × List ℕ → Type 0
-MessageWritePromise buffer address tag value held o = o ≡ (told (messageMeans buffer address tag value) held, messageLeaves buffer address tag value)
+MessageWritePromise buffer address tag value held o = o ≡ toldWith (messageMeans buffer address tag value) held
 
 -- writing a code: the next position; the buffer
 abbrev pub CodePackPromise : List ℕ → ℕ → ℤ → ℕ → ℕ → (ℕ × ℕ) × List ℕ → Type 0
-CodePackPromise buffer at value drop held o = o ≡ (told (packMeans buffer at value drop) held, packLeaves buffer at value drop)
+CodePackPromise buffer at value drop held o = o ≡ toldWith (packMeans buffer at value drop) held
 
 -- reading a code: the number, and the next position
-abbrev pub CodeUnpackPromise : List ℕ → ℕ → ℕ → Taken → ℕ × Taken → Type 0
+abbrev pub CodeUnpackPromise : List ℕ → ℕ → ℕ → UnpackValues → ℕ × UnpackValues → Type 0
 CodeUnpackPromise bytes at drop held o = o ≡ told (unpackMeans bytes at drop) held
 
 -- reading counts: the edges, whether they are one exact count, and the next position
@@ -94,8 +94,8 @@ pub record Left : Type 0 where
   pub state : List ℕ
 
 -- the same of what the library's call means
-abbrev pub leftBy : Outcome → Left
-leftBy o = record { number = numberOf (o .answer); memory = o .memory; state = o .state }
+abbrev pub leftBy : CallOutcome → Left
+leftBy o = record { number = numberOf (o .answer); memory = o .leaves .memory; state = o .leaves .state }
 
 -- opening: memory and state
 abbrev pub HistogramOpenPromise : List ℕ → List ℕ → Left → Type 0

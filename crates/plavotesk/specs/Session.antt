@@ -7,14 +7,13 @@ use Prim.Native.Nat.{ℕ, _+_, _<_}
 use native.Mathlib.Omega.{arith}
 use borrow.Author.Tests.{ne-eqb}
 use lib.Dec.{eqb}
-use lib.ListN.{length}
-use Rattle.ground.specs.Choice.{pick, pick-elim}
-use Rattle.ground.specs.Paper.{Paper, accepted, refused, refusedWith, numberOf}
-use Rattle.pages.specs.Meaning.{sizedOf}
+use Rattle.ground.specs.Choice.{pick}
+use Rattle.ground.specs.Outcome.{accept, refuse}
+use Rattle.ground.specs.Paper.{Paper, accepted, refusal, numberOf}
 use Rattle.pages.specs.declared.Window.{Window}
 use Rattle.histogram.specs.Conservation.{call-conserves, opened-balanced}
-use Rattle.histogram.specs.Meaning.{Outcome, Value, askMeans, done, new, again, openMeans, outcomeOf, refuse, roomy}
-use Rattle.histogram.specs.Outcomes.{call-elim}
+use Rattle.histogram.specs.Meaning.{CallOutcome, Value, again, askMeans, done, lent, new, openMeans}
+use Rattle.histogram.specs.Outcomes.{call-elim, open-elim}
 use Rattle.histogram.specs.Repeat.{repeat}
 use Rattle.histogram.specs.Runs.{Call, increment, flip, ask, Ledger, NoNew, acceptedBy, answered, callMeans, clearedBy, isNew, run, step, total}
 use Rattle.plavotesk.specs.Meaning.{AskValues, toldAsk}
@@ -89,14 +88,14 @@ meets-left m w (flipped o) e = e
 meets-left m w (asked number v held o values) e = ap (λ (y : Left × AskValues). y .0) e
 
 -- what a number and lent places tell of an outcome is what its answer says
-abbrev Tells : Call → Outcome → Type 0
+abbrev Tells : Call → CallOutcome → Type 0
 Tells (increment address) o = (pick (eqb (numberOf (o .answer)) 0) 1 0 ≡ acceptedBy (increment address) (o .answer)) × (isNew (o .answer) ≡ false)
 Tells flip o = isNew (o .answer) ≡ false
 Tells (ask number v) o = (held : AskValues) → (eqb (numberOf (o .answer)) 0 && eqb (toldAsk (o .answer) held .again) 0 ≡ isNew (o .answer))
     × (pick (isNew (o .answer)) (pick (v .clear) (toldAsk (o .answer) held .sum) 0) 0 ≡ clearedBy (ask number v) (o .answer))
 
 -- a refusal's number is not 0
-refusal-tells : (m w : List ℕ) (c : Call) (n : ℕ) → 0 < n → Tells c (refuse n m w)
+refusal-tells : (m w : List ℕ) (c : Call) (n : ℕ) → 0 < n → Tells c (refuse n (lent m w))
 refusal-tells m w (increment address) n z = (rw (ne-eqb n 0 (λ e. omega arith)), refl)
 refusal-tells m w flip n z = refl
 refusal-tells m w (ask number v) n z = λ held. (rw (ne-eqb n 0 (λ e. omega arith)), refl)
@@ -136,8 +135,8 @@ module _ (m w : List ℕ) where
   -- one call: what is held and what it cleared is what was held and what it accepted
   made-conserves : (x : Made) → Meets m w x → total (leftOf x .memory) + clearedIn x ≡ total m + acceptedIn x
   made-conserves x e =
-      let l : total (leftOf x .memory) ≡ total (callMeans m w (callOf x) .memory) = ap (λ (y : Left). total (y .memory)) (meets-left m w x e) in
-      let k : total (callMeans m w (callOf x) .memory) + clearedBy (callOf x) (callMeans m w (callOf x) .answer)
+      let l : total (leftOf x .memory) ≡ total (callMeans m w (callOf x) .leaves .memory) = ap (λ (y : Left). total (y .memory)) (meets-left m w x e) in
+      let k : total (callMeans m w (callOf x) .leaves .memory) + clearedBy (callOf x) (callMeans m w (callOf x) .answer)
       ≡ total m + acceptedBy (callOf x) (callMeans m w (callOf x) .answer) = call-conserves m w (callOf x) in
       omega (arith, l, k, accepted-same x e, cleared-same x e)
 
@@ -153,21 +152,19 @@ session-balanced o (x ∷ xs) s =
 
 -- an opening that answers 0 was accepted
 open-accepted : (m w : List ℕ) (o : Left) → HistogramOpenPromise m w o → o .number ≡ 0 → openMeans m w .answer ≡ accepted done
-unfolding openMeans
 open-accepted m w o e z =
-    pick-elim (λ (x : Outcome). o ≡ leftBy x → x .answer ≡ accepted done) (roomy w && sizedOf (length m)) _ _
+    open-elim m w (λ (x : CallOutcome). o ≡ leftBy x → x .answer ≡ accepted done)
     (λ h q. refl)
-    (λ h q. absurd (let n : o .number ≡ 13 = ap (λ (x : Left). x .number) q in omega (arith, z)))
+    (λ n some q. absurd (let k : o .number ≡ n = ap (λ (x : Left). x .number) q in omega arith))
     e
 
--- demand 3 of the exported calls: from an opening that answered 0, after every session, refused calls among them, the counts in lent memory plus the sums
--- that new
--- clearing asks handed out equal the increments that answered 0
+-- demand 3 of the exported calls: from an opening that answered 0, after every session, refused calls among them, the counts in lent memory plus the
+-- sums that new clearing asks handed out equal the increments that answered 0
 pub session-conserves : (m w : List ℕ) (o : Left) → HistogramOpenPromise m w o → o .number ≡ 0 → (xs : List Made) → Session o xs
     → total (lastLeft o xs .memory) + sumOver clearedIn xs ≡ sumOver acceptedIn xs
 session-conserves m w o e z xs s =
-    let opened : total (openMeans m w .memory) + 0 ≡ 0 = opened-balanced m w (open-accepted m w o e z) in
-    let lent : total (o .memory) ≡ total (openMeans m w .memory) = ap (λ (y : Left). total (y .memory)) e in
+    let opened : total (openMeans m w .leaves .memory) + 0 ≡ 0 = opened-balanced m w (open-accepted m w o e z) in
+    let lent : total (o .memory) ≡ total (openMeans m w .leaves .memory) = ap (λ (y : Left). total (y .memory)) e in
     omega (arith, opened, lent, session-balanced o xs s)
 
 -- lent memory and state are a ledger's
@@ -199,8 +196,7 @@ new-answer : (p : Paper Value) (held : AskValues) → isNew p ≡ true → p ≡
 new-answer (accepted done) held e = absurd (let z : _≡_ {A = ℕ} 0 1 = cc in omega arith)
 new-answer (accepted (new sum)) held e = refl
 new-answer (accepted (again sum)) held e = absurd (let z : _≡_ {A = ℕ} 0 1 = cc in omega arith)
-new-answer (refused n) held e = absurd (let z : _≡_ {A = ℕ} 0 1 = cc in omega arith)
-new-answer (refusedWith n x) held e = absurd (let z : _≡_ {A = ℕ} 0 1 = cc in omega arith)
+new-answer (refusal n carried) held e = absurd (let z : _≡_ {A = ℕ} 0 1 = cc in omega arith)
 
 -- what a repeat leaves: 0, the same sum as again, memory and state as they were
 pub record Repeated (before : Left) (sum : ℕ) (o : Left) (values : AskValues) : Type 0 where
@@ -225,17 +221,17 @@ session-repeats o number v held p values later e n s none held′ q values′ e�
     let first : Same p (step l (ask number v)) = step-same o l (asked number v held p values) (refl, refl) e in
     let r : Ledger = run (step l (ask number v)) (map callOf later) in
     let same : Same (lastLeft p later) r = session-same p (step l (ask number v)) later first s in
-    let kept : askMeans (r .memory) (r .state) number v ≡ outcomeOf (accepted (again (values .sum))) (r .memory) (r .state)
+    let kept : askMeans (r .memory) (r .state) number v ≡ accept (again (values .sum)) (lent (r .memory) (r .state))
     = repeat l number (values .sum) v (map callOf later) was (session-none p (step l (ask number v)) later first s none) in
     let z : askMeans (lastLeft p later .memory) (lastLeft p later .state) number v
-    ≡ outcomeOf (accepted (again (values .sum))) (lastLeft p later .memory) (lastLeft p later .state)
+    ≡ accept (again (values .sum)) (lent (lastLeft p later .memory) (lastLeft p later .state))
     = ap₂ (λ (m w : List ℕ). askMeans m w number v) (same .0) (same .1) ∙ kept
-    ∙ ap₂ (λ (m w : List ℕ). outcomeOf (accepted (again (values .sum))) m w) (sym (same .0)) (sym (same .1)) in
-    let left : q ≡ leftBy (outcomeOf (accepted (again (values .sum))) (lastLeft p later .memory) (lastLeft p later .state))
+    ∙ ap₂ (λ (m w : List ℕ). accept (again (values .sum)) (lent m w)) (sym (same .0)) (sym (same .1)) in
+    let left : q ≡ leftBy (accept (again (values .sum)) (lent (lastLeft p later .memory) (lastLeft p later .state)))
     = ap (λ (y : Left × AskValues). y .0) e′ ∙ ap leftBy z in
     record {
       number = ap (λ (y : Left). y .number) left;
-      told = ap (λ (y : Left × AskValues). y .1) e′ ∙ ap (λ (x : Outcome). toldAsk (x .answer) held′) z;
+      told = ap (λ (y : Left × AskValues). y .1) e′ ∙ ap (λ (x : CallOutcome). toldAsk (x .answer) held′) z;
       memory = ap (λ (y : Left). y .memory) left;
       state = ap (λ (y : Left). y .state) left;
     }

@@ -3,7 +3,7 @@
 use mathlib.Core.Path.{_≡_, sym, ap, _∙_}
 use mathlib.Core.List.{List}
 use Prim.Native.Nat.{ℕ}
-use Rattle.ground.specs.Paper.{Paper, accepted, refused}
+use Rattle.ground.specs.Paper.{Paper, accepted, refused, onward}
 use Rattle.cadence.specs.Meaning.{secondsMeans}
 use Rattle.cadence.specs.Answers.{lengthPaper}
 use Rattle.cadence.specs.Promise.{SecondsPromise}
@@ -12,10 +12,10 @@ use Rattle.cadence.specs.declared.Length.the-variants.{Seconds}
 use Rattle.rate.specs.declared.record.Reading.{Reading}
 use Rattle.rate.specs.declared.record.Rate.{Rate}
 use Rattle.rate.specs.declared.Refusal.{Refusal}
-use Rattle.rate.specs.declared.Counted.{Counted}
-use Rattle.rate.specs.declared.Counted.the-variants as C
-use Rattle.rate.specs.Meaning.{refusalNumber, ReadingValues, RateValues, onward, rateOf, rateValues, rateMeans}
-use Rattle.rate.specs.Answers.{countedPaper}
+use Rattle.rate.specs.declared.ReadingAnswer.{ReadingAnswer}
+use Rattle.rate.specs.declared.ReadingAnswer.the-variants as C
+use Rattle.rate.specs.Meaning.{refusalNumber, ReadingValues, RateValues, rateOf, rateValues, rateMeans}
+use Rattle.rate.specs.Answers.{readingPaper}
 use Rattle.rate.specs.Promise.{ReadingPromise}
 use Rattle.rate.specs.Steps.{refusalIn}
 
@@ -24,18 +24,18 @@ abbrev after : ℕ → ReadingValues → Paper RateValues
 after level r = onward (rateValues r) (secondsMeans level)
 
 -- a reading's refusal is handed on
-pub refusal-rates : (bytes : List ℕ) (at d level : ℕ) (r : Counted) (why given : Refusal) → ReadingPromise bytes at d r → r ≡ C.Refused given
+pub refusal-rates : (bytes : List ℕ) (at d level : ℕ) (r : ReadingAnswer) (why given : Refusal) → ReadingPromise bytes at d r → r ≡ C.Refused given
     → why ≡ refusalIn r → refused (refusalNumber why) ≡ rateMeans bytes at d level
 refusal-rates bytes at d level r why given p f e =
     ap (λ (w : Refusal). refused (refusalNumber w)) (e ∙ ap refusalIn f)
-    ∙ sym (sym (ap (onward (after level)) (p .answer)) ∙ ap (λ (x : Counted). onward (after level) (countedPaper x)) f)
+    ∙ sym (sym (ap (onward (after level)) (p .answer)) ∙ ap (λ (x : ReadingAnswer). onward (after level) (readingPaper x)) f)
 
-module _ (bytes : List ℕ) (at d level : ℕ) {r : Counted} (reading : Reading) (next : ℕ) (p : ReadingPromise bytes at d r) (e : r ≡ C.Counts reading next)
+module _ (bytes : List ℕ) (at d level : ℕ) {r : ReadingAnswer} (reading : Reading) (next : ℕ) (p : ReadingPromise bytes at d r) (e : r ≡ C.Counts reading next)
     {length : Length} (q : SecondsPromise level length) where
   -- the seconds decide
   by-length : rateMeans bytes at d level ≡ onward (rateValues (record { reading = reading; next = next })) (lengthPaper length)
   by-length =
-      sym (ap (onward (after level)) (sym (ap countedPaper e) ∙ p .answer))
+      sym (ap (onward (after level)) (sym (ap readingPaper e) ∙ p .answer))
       ∙ sym (ap (onward (rateValues (record { reading = reading; next = next }))) (q .answer))
 
   -- no such level

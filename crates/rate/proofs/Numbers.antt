@@ -12,8 +12,8 @@ use types.Run.{OneOf}
 use mir.Syntax.{w32}
 use mir.Val.{toZ, ofZ, SFits}
 use mir.ValLaws.{toZ-ofZ}
-use Rattle.ground.specs.Paper.{accepted, refused}
-use Rattle.code.specs.Meaning.{signOf, Shape, shapeOf, shapeOfNumber, magnitude, value, sign, parseAt, Taken, unpackMeans, largest}
+use Rattle.ground.specs.Paper.{accepted, refused, onward}
+use Rattle.code.specs.Meaning.{signOf, Shape, shapeOf, shapeOfNumber, magnitude, value, sign, parseAt, UnpackValues, unpackMeans, largest}
 use Rattle.code.specs.Magnitudes.{shape-of-value, magnitude-fits, magnitude-positive, sign-bit, signed-back}
 use Rattle.code.specs.Answers.{unpackedPaper}
 use Rattle.code.specs.Promise.{UnpackPromise, SignPromise}
@@ -22,7 +22,7 @@ use Rattle.code.specs.declared.Unpacked.{Unpacked}
 use Rattle.code.specs.declared.Unpacked.the-variants as U
 use Rattle.rate.specs.declared.record.Reading.{Reading}
 use Rattle.rate.specs.declared.Refusal.{Refusal}
-use Rattle.rate.specs.Meaning.{refusalNumber, onward, codeRead, negative, numberReads, readingOf, readingMeans}
+use Rattle.rate.specs.Meaning.{refusalNumber, codeRead, negative, numberReads, readingOf, readingMeans}
 use Rattle.rate.specs.Readings.{WasRead, was-accepted}
 use Rattle.rate.specs.Steps.{refusalOf, Decoded}
 
@@ -35,27 +35,27 @@ record Natural (bytes : List ℕ) (at d m : ℕ) : Type 0 where
 natural : (bytes : List ℕ) (at d m next : ℕ) → WasRead bytes at d (record { value = pos m; next = next }) → Natural bytes at d m
 natural bytes at d m next r =
     let read : Shape = codeRead (parseAt bytes at d) in
-    let same : shapeOf d 0 m ≡ read = ap (shapeOfNumber d) (r .value-is) ∙ shape-of-value d read (r .taken) (r .valid) in
+    let same : shapeOf d 0 m ≡ read = ap (shapeOfNumber d) (r .value-is) ∙ shape-of-value d read (r .known) (r .valid) in
     let back : natAbs (value d read) ≡ magnitude d read =
-    signed-back (sign read) (magnitude d read) (sign-bit d read (r .valid)) (magnitude-positive d read (r .taken) (r .valid)) .1 in
+    signed-back (sign read) (magnitude d read) (sign-bit d read (r .valid)) (magnitude-positive d read (r .known) (r .valid)) .1 in
     let size : m ≡ magnitude d read = ap natAbs (r .value-is) ∙ back in
     record {
       shape = same;
       decoded = record {
-        taken = r .taken;
-        fits = subst (λ (n : ℕ). n ≤ largest) (sym size) (magnitude-fits d read (r .taken) (r .valid));
+        taken = r .known;
+        fits = subst (λ (n : ℕ). n ≤ largest) (sym size) (magnitude-fits d read (r .known) (r .valid));
         decoded = ap (magnitude d) same ∙ sym size;
       };
     }
 
 -- every number that was read fits
-number-fits : (bytes : List ℕ) (at d : ℕ) (t : Taken) → WasRead bytes at d t → SFits w32 (t .value)
+number-fits : (bytes : List ℕ) (at d : ℕ) (t : UnpackValues) → WasRead bytes at d t → SFits w32 (t .value)
 number-fits bytes at d t r =
     let read : Shape = codeRead (parseAt bytes at d) in
     let back : natAbs (value d read) ≡ magnitude d read =
-    signed-back (sign read) (magnitude d read) (sign-bit d read (r .valid)) (magnitude-positive d read (r .taken) (r .valid)) .1 in
+    signed-back (sign read) (magnitude d read) (sign-bit d read (r .valid)) (magnitude-positive d read (r .known) (r .valid)) .1 in
     let small : natAbs (t .value) ≤ largest =
-    subst (λ (n : ℕ). n ≤ largest) (sym (ap natAbs (r .value-is) ∙ back)) (magnitude-fits d read (r .taken) (r .valid)) in
+    subst (λ (n : ℕ). n ≤ largest) (sym (ap natAbs (r .value-is) ∙ back)) (magnitude-fits d read (r .known) (r .valid)) in
     go (t .value) small
   where
     go : (v : ℤ) → natAbs v ≤ largest → SFits w32 v

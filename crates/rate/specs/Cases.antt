@@ -4,7 +4,7 @@ use mathlib.Core.Path.{_≡_, refl}
 use mathlib.Core.List.{List, [], _∷_}
 use Prim.Native.Nat.{ℕ}
 use Rattle.ground.specs.Paper.{accepted, refused}
-use Rattle.code.specs.Meaning.{nought, small, mid, big, parse, afterSign, counted}
+use Rattle.code.specs.Meaning.{nought, small, mid, big, parse, afterSign, bitsThatCount}
 use Rattle.rate.specs.declared.record.Reading.the-variants.{Exact, Between}
 use Rattle.rate.specs.Meaning.{error, band, asFloat, readingMeans, rateMeans}
 
@@ -37,12 +37,12 @@ band-of-nought = refl
 
 -- drop 0's `1000101` is read as 5
 pub five-is-exact : readingMeans (138 ∷ []) 0 0 ≡ accepted (record { reading = Exact (asFloat 5); next = 7 })
-unfolding parse afterSign counted
+unfolding parse afterSign bitsThatCount
 five-is-exact = refl
 
 -- drop 3's `0` at bit 4 is read as 0 to 3
 pub nought-is-a-band : readingMeans (240 ∷ []) 4 3 ≡ accepted (record { reading = Between (asFloat 0) (asFloat 3); next = 5 })
-unfolding parse afterSign counted
+unfolding parse afterSign bitsThatCount
 nought-is-a-band = refl
 
 -- "Rate: the code's refusal, then a negative number's 8, then 19": at level 8 a drop of 1, no bits, a redundant zero, twelve ones, -16, and 5
@@ -54,5 +54,5 @@ pub rate-refusals : rateMeans (138 ∷ []) 0 1 8
     ∷ rateMeans (138 ∷ []) 0 0 8
     ∷ []
     ≡ refused 8 ∷ refused 9 ∷ refused 10 ∷ refused 11 ∷ refused 8 ∷ refused 19 ∷ []
-unfolding parse afterSign counted
+unfolding parse afterSign bitsThatCount
 rate-refusals = refl

@@ -7,8 +7,8 @@ use lib.IntN.{ℤ, pos, negsuc}
 use lib.Dec.{eqb}
 use lib.Ieee.{Float, ofInt, div, binary64}
 use Rattle.ground.specs.Choice.{pick}
-use Rattle.ground.specs.Paper.{Paper, accepted, refused, refusedWith}
-use Rattle.code.specs.Meaning.{Shape, nought, small, mid, big, leftOut, magnitude, Parsed, found, ranOut, redundantZero, runTooLong, parseAt, Taken}
+use Rattle.ground.specs.Paper.{Paper, accepted, refused, onward}
+use Rattle.code.specs.Meaning.{Shape, nought, small, mid, big, leftOut, magnitude, Parsed, found, ranOut, redundantZero, runTooLong, parseAt, UnpackValues}
 use Rattle.code.specs.Meaning.{unpackMeans}
 use Rattle.cadence.specs.Meaning.{secondsMeans}
 use Rattle.rate.specs.declared.record.Reading.{Reading}
@@ -73,12 +73,6 @@ pub record RateValues : Type 0 where
   pub rate : Rate
   pub next : ℕ
 
--- what was accepted goes on; a refusal is handed on as it is
-abbrev pub onward : {A B : Type 0} → (A → Paper B) → Paper A → Paper B
-onward f (accepted x) = f x
-onward f (refused n) = refused n
-onward f (refusedWith n x) = refusedWith n x
-
 -- the code that was read; where none was, nothing asks for it
 abbrev pub codeRead : Parsed → Shape
 codeRead (found shape rest) = shape
@@ -92,7 +86,7 @@ negative (pos n) = false
 negative (negsuc n) = true
 
 -- "negative numbers have no reading and no rate (8)", others that of their code
-abbrev pub numberReads : ℕ → Shape → Taken → Paper ReadingValues
+abbrev pub numberReads : ℕ → Shape → UnpackValues → Paper ReadingValues
 numberReads d shape t =
     pick (negative (t .value)) (refused 8) (accepted (record { reading = readingOf d shape; next = t .next }))
 

@@ -7,30 +7,30 @@ use Prim.Native.Nat.{ℕ, zero, suc, _+_, _<_, _≤_}
 use native.Mathlib.Omega.{arith}
 use lib.ListN.{length}
 use borrow.Author.Tests.{lt-ltb, le-ltb}
-use Rattle.ground.specs.Paper.{Paper, accepted, refused}
-use Rattle.code.specs.Meaning.{Shape, magnitude, signed, sign, value, found, parseAt, bits, Taken, answerOf, unpackMeans, counted}
-use Rattle.code.specs.Shapes.{Drop, drop-of, drop-takes, Valid}
+use Rattle.ground.specs.Paper.{Paper, accepted, refused, onward}
+use Rattle.code.specs.Meaning.{Shape, magnitude, signed, sign, value, found, parseAt, bits, UnpackValues, answerOf, unpackMeans, bitsThatCount}
+use Rattle.code.specs.Shapes.{Drop, drop-of, drop-is-known, Valid}
 use Rattle.code.specs.Magnitudes.{magnitude-positive}
 use Rattle.code.specs.Theorems.{read-at, reads-shape}
 use Rattle.cadence.specs.Meaning.{lengthOf, secondsMeans}
 use Rattle.rate.specs.declared.record.Reading.the-variants.{Exact, Between}
-use Rattle.rate.specs.Meaning.{band, exact, asFloat, readingOf, rateOf, ReadingValues, onward, codeRead, negative, numberReads, readingMeans}
+use Rattle.rate.specs.Meaning.{band, exact, asFloat, readingOf, rateOf, ReadingValues, codeRead, negative, numberReads, readingMeans}
 use Rattle.rate.specs.Meaning.{rateValues, rateMeans}
 
--- an accepted code: a drop that is taken, and a valid code, whose value the number is
-pub record WasRead (bytes : List ℕ) (at d : ℕ) (t : Taken) : Type 0 where
-  pub taken : Drop d
+-- an accepted code: a known drop, and a valid code, whose value the number is
+pub record WasRead (bytes : List ℕ) (at d : ℕ) (t : UnpackValues) : Type 0 where
+  pub known : Drop d
   pub valid : Valid d (codeRead (parseAt bytes at d))
   pub value-is : t .value ≡ value d (codeRead (parseAt bytes at d))
 
 -- what is accepted was read
-pub was-accepted : (bytes : List ℕ) (at d : ℕ) (t : Taken) → unpackMeans bytes at d ≡ accepted t → WasRead bytes at d t
+pub was-accepted : (bytes : List ℕ) (at d : ℕ) (t : UnpackValues) → unpackMeans bytes at d ≡ accepted t → WasRead bytes at d t
 was-accepted bytes at d t e =
     let r = read-at bytes at d e in
-    let room : at + length (bits d (r .shape)) ≤ length (counted bytes) = omega (arith, r .after, r .inside) in
+    let room : at + length (bits d (r .shape)) ≤ length (bitsThatCount bytes) = omega (arith, r .after, r .inside) in
     let same : codeRead (parseAt bytes at d) ≡ r .shape = ap codeRead (reads-shape bytes at d (r .shape) (r .valid) room (r .stands)) in
     record {
-      taken = drop-of d (r .taken);
+      known = drop-of d (r .known);
       valid = subst (Valid d) (sym same) (r .valid);
       value-is = r .number ∙ ap (value d) (sym same);
     }
@@ -56,8 +56,8 @@ module _ (bytes : List ℕ) (at d : ℕ) where
     -- what the code gives, its sign decides
     by-sign : readingMeans bytes at d ≡ numberReads d shape (record { value = value d shape; next = at + length (bits d shape) })
     by-sign =
-        let taken : unpackMeans bytes at d ≡ answerOf d at (parseAt bytes at d) = rw (drop-takes dr) in
-        ap₂ (λ (s : Shape) (p : Paper Taken). onward (numberReads d s) p) (ap codeRead e) (taken ∙ ap (answerOf d at) e)
+        let taken : unpackMeans bytes at d ≡ answerOf d at (parseAt bytes at d) = rw (drop-is-known dr) in
+        ap₂ (λ (s : Shape) (p : Paper UnpackValues). onward (numberReads d s) p) (ap codeRead e) (taken ∙ ap (answerOf d at) e)
 
     -- a code with the sign 0 has its reading, and the position after the code
     pub found-reads : sign shape ≡ 0 → readingMeans bytes at d ≡ accepted (record { reading = readingOf d shape; next = at + length (bits d shape) })

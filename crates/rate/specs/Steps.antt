@@ -8,8 +8,8 @@ use Rattle.code.specs.declared.Unpacked.{Unpacked}
 use Rattle.code.specs.declared.Unpacked.the-variants as U
 use Rattle.rate.specs.declared.Refusal.{Refusal}
 use Rattle.rate.specs.declared.Refusal.the-variants.{OutsideRule, RanOut, RedundantZero, RunTooLong}
-use Rattle.rate.specs.declared.Counted.{Counted}
-use Rattle.rate.specs.declared.Counted.the-variants as C
+use Rattle.rate.specs.declared.ReadingAnswer.{ReadingAnswer}
+use Rattle.rate.specs.declared.ReadingAnswer.the-variants as C
 
 -- the refusal that a code was answered with; of a number nothing is asked
 abbrev pub refusalOf : Unpacked → Refusal
@@ -20,7 +20,7 @@ refusalOf U.RedundantZero = RedundantZero
 refusalOf U.RunTooLong = RunTooLong
 
 -- the refusal that a reading was answered with; of counts nothing is asked
-abbrev pub refusalIn : Counted → Refusal
+abbrev pub refusalIn : ReadingAnswer → Refusal
 refusalIn (C.Counts reading next) = OutsideRule
 refusalIn (C.Refused why) = why
 

@@ -9,7 +9,7 @@ use record::Reading;
 ghost use mathlib.Core.Path.{_≡_};
 ghost use Rattle.ground.specs.Paper.{numberOf};
 ghost use Rattle.rate.specs.Meaning.{refusalNumber};
-ghost use Rattle.rate.specs.Answers.{countedPaper, ratedPaper};
+ghost use Rattle.rate.specs.Answers.{readingPaper, ratePaper};
 ghost use Rattle.rate.specs.Promise.{ReadingPromise, RatePromise};
 ghost use Rattle.rate.specs.Steps.{refusalOf, refusalIn};
 
@@ -22,74 +22,74 @@ pub enum Refusal {
 }
 
 // What reading counts answers: the reading and the next bit position, or why there is none.
-pub enum Counted {
+pub enum ReadingAnswer {
     Counts { reading: Reading, next: u64 },
     Refused(Refusal),
 }
 
 // What forming a rate answers: the rate and the next bit position, why there is no reading, or no such level.
-pub enum Rated {
+pub enum RateAnswer {
     Formed { rate: Rate, next: u64 },
     Refused(Refusal),
     OutOfRange,
 }
 
 // The counts that the code at a bit position means, and the position after it.
-pub fn reading(bytes: &[u8], at: u64, drop: u8) -> Counted
+pub fn reading(bytes: &[u8], at: u64, drop: u8) -> ReadingAnswer
     ensures { λ r. ⌜ ReadingPromise (now (bytes .entry)) at drop r ⌝ }
 {
     let answer = unpack::unpack(bytes, at, drop);
     let Unpacked::Number { value, next } = answer else {
-        return Counted::Refused(handed(answer));
+        return ReadingAnswer::Refused(handed(answer));
     };
     if code::sign(value) == 1 {
-        return Counted::Refused(Refusal::OutsideRule);
+        return ReadingAnswer::Refused(Refusal::OutsideRule);
     }
-    Counted::Counts {
+    ReadingAnswer::Counts {
         reading: band::counts(code::magnitude(value), drop as u32),
         next,
     }
 }
 
 // The rate of the code at a bit position, over the seconds of a cadence level, and the position after the code.
-pub fn rate(bytes: &[u8], at: u64, drop: u8, level: u8) -> Rated
+pub fn rate(bytes: &[u8], at: u64, drop: u8, level: u8) -> RateAnswer
     ensures { λ r. ⌜ RatePromise (now (bytes .entry)) at drop level r ⌝ }
 {
     let answer = reading(bytes, at, drop);
-    let Counted::Counts { reading, next } = answer else {
-        return Rated::Refused(reason(answer));
+    let ReadingAnswer::Counts { reading, next } = answer else {
+        return RateAnswer::Refused(reason(answer));
     };
     let length = cadence::seconds(level);
     let Length::Seconds(seconds) = length else {
-        return Rated::OutOfRange;
+        return RateAnswer::OutOfRange;
     };
-    Rated::Formed {
+    RateAnswer::Formed {
         rate: band::divided(reading, seconds),
         next,
     }
 }
 
 // Document 01's number of what reading answered, 0 where counts were read.
-pub fn counted_number(a: Counted) -> u8
-    ensures { λ r. ⌜ r ≡ numberOf (countedPaper a) ⌝ }
+pub fn reading_number(a: ReadingAnswer) -> u8
+    ensures { λ r. ⌜ r ≡ numberOf (readingPaper a) ⌝ }
 {
     match a {
-        Counted::Counts {
+        ReadingAnswer::Counts {
             reading: _,
             next: _,
         } => 0,
-        Counted::Refused(why) => refusal_number(why),
+        ReadingAnswer::Refused(why) => refusal_number(why),
     }
 }
 
 // Document 01's number of what forming a rate answered, 0 where it was formed.
-pub fn rated_number(a: Rated) -> u8
-    ensures { λ r. ⌜ r ≡ numberOf (ratedPaper a) ⌝ }
+pub fn rate_number(a: RateAnswer) -> u8
+    ensures { λ r. ⌜ r ≡ numberOf (ratePaper a) ⌝ }
 {
     match a {
-        Rated::Formed { rate: _, next: _ } => 0,
-        Rated::Refused(why) => refusal_number(why),
-        Rated::OutOfRange => 19,
+        RateAnswer::Formed { rate: _, next: _ } => 0,
+        RateAnswer::Refused(why) => refusal_number(why),
+        RateAnswer::OutOfRange => 19,
     }
 }
 
@@ -119,12 +119,12 @@ fn handed(answer: Unpacked) -> Refusal
 }
 
 // The refusal that a reading was answered with.
-fn reason(answer: Counted) -> Refusal
+fn reason(answer: ReadingAnswer) -> Refusal
     ensures { λ r. ⌜ r ≡ refusalIn answer ⌝ }
 {
     match answer {
-        Counted::Refused(why) => why,
-        Counted::Counts {
+        ReadingAnswer::Refused(why) => why,
+        ReadingAnswer::Counts {
             reading: _,
             next: _,
         } => Refusal::OutsideRule,

@@ -12,12 +12,12 @@ use lib.Dec.{ltb}
 use borrow.Author.Tests.{lt-ltb, le-ltb, ne-eqb}
 use Rattle.ground.specs.Choice.{pick}
 use Rattle.ground.specs.Paper.{Paper, accepted, refused}
-use Rattle.code.specs.Meaning.{Shape, small, mid, big, Parsed, found, ranOut, redundantZero, runTooLong, Taken, counted, fromBits, filled, signed}
+use Rattle.code.specs.Meaning.{Shape, small, mid, big, Parsed, found, ranOut, redundantZero, runTooLong, UnpackValues, bitsThatCount, fromBits, filled, signed}
 use Rattle.code.specs.Meaning.{value, field, bigField, parityThen, unlessZero, afterRun, afterSign, parse, parseAt, bits, answerOf, unpackMeans}
-use Rattle.code.specs.Meaning.{dropTaken, largest, longestRun}
+use Rattle.code.specs.Meaning.{dropKnown, largest, longestRun}
 use Rattle.code.specs.Shapes.{Drop, none, three, Exact, parse-exact, bits-some}
 use Rattle.code.specs.BitLists.{allBits-drop}
-use Rattle.code.specs.Positions.{allBits-counted}
+use Rattle.code.specs.Positions.{allBits-bitsThatCount}
 use Rattle.code.specs.Magnitudes.{magnitude-fits, drop-small}
 use Rattle.code.proofs.Numbers.{shift-is}
 use Rattle.unpack.specs.Steps.{restAnswer, normalAnswer, zeroAnswer, NormalPlace, BigPlace}
@@ -71,7 +71,7 @@ big-is d end s ones p l h hp =
     (rest-is d end (ones + 1 - d) s (2 ^ (2 * ones + 1 + p)) (ones + p + d) (big s ones p) l (λ x. refl))
 
 -- where a mid field is read
-pub mid-place : (bytes : List ℕ) (at end d s : ℕ) → end ≡ length (counted bytes) → at ≤ end → Drop d → s < 2
+pub mid-place : (bytes : List ℕ) (at end d s : ℕ) → end ≡ length (bitsThatCount bytes) → at ≤ end → Drop d → s < 2
     → NormalPlace bytes at end s 16 (3 - d) (1 + d)
 mid-place bytes at end d s e a dr hs =
     record {
@@ -208,7 +208,7 @@ pub mid-run : (d end s ones : ℕ) (l : List ℕ) → ones ≡ 1 → normalAnswe
 mid-run d end s ones l e = mid-is d end s l ∙ ap (λ (n : ℕ). restAnswer d end (afterRun d s n l)) (sym e)
 
 -- the answer to what the start means, by what it means here
-pub answer-by : (d end : ℕ) {p : Paper Taken} {x y z : Parsed} → x ≡ y → y ≡ z → p ≡ restAnswer d end z → p ≡ restAnswer d end x
+pub answer-by : (d end : ℕ) {p : Paper UnpackValues} {x y z : Parsed} → x ≡ y → y ≡ z → p ≡ restAnswer d end z → p ≡ restAnswer d end x
 answer-by d end u v q = q ∙ ap (restAnswer d end) (sym (u ∙ v))
 
 -- no bit at the position
@@ -240,7 +240,7 @@ module _ (l : List ℕ) (at end d b : ℕ) (end-is : end ≡ length l) (inside :
       sym (ap (λ (k : List ℕ). restAnswer d end (parse d k)) (o .1 ∙ ap (λ (k : List ℕ). suc (o .0) ∷ k) (drop-of-length-le l {i = at + 1} (omega arith))))
 
   -- the sign, and what follows it
-  pub sign-there : (s : ℕ) {p : Paper Taken} → (b ≡ 0 → ⊥) → at + 1 < end → s ≡ getD l (at + 1) 0
+  pub sign-there : (s : ℕ) {p : Paper UnpackValues} → (b ≡ 0 → ⊥) → at + 1 < end → s ≡ getD l (at + 1) 0
       → p ≡ restAnswer d end (afterSign d s 0 (drop (at + 2) l)) → p ≡ restAnswer d end (parse d (drop at l))
   unfolding parse
   sign-there s h more q r =
@@ -261,15 +261,15 @@ rest-answer d at end l redundantZero e x = refl
 rest-answer d at end l runTooLong e x = refl
 
 -- what reading answers, where the drop is taken
-pub unpack-is : (bytes : List ℕ) (at d end w : ℕ) {p : Paper Taken} → dropTaken d ≡ true → end ≡ length (counted bytes) → w ≡ d
-    → p ≡ restAnswer w end (parse w (drop at (counted bytes))) → p ≡ unpackMeans bytes at d
+pub unpack-is : (bytes : List ℕ) (at d end w : ℕ) {p : Paper UnpackValues} → dropKnown d ≡ true → end ≡ length (bitsThatCount bytes) → w ≡ d
+    → p ≡ restAnswer w end (parse w (drop at (bitsThatCount bytes))) → p ≡ unpackMeans bytes at d
 unpack-is bytes at d end w {p} t e q r =
     r
-    ∙ ap (λ (n : ℕ). restAnswer n end (parse n (drop at (counted bytes)))) q
-    ∙ rest-answer d at end (counted bytes) (parse d (drop at (counted bytes))) e
-    (parse-exact d (drop at (counted bytes)) (allBits-drop at (counted bytes) (allBits-counted bytes)))
+    ∙ ap (λ (n : ℕ). restAnswer n end (parse n (drop at (bitsThatCount bytes)))) q
+    ∙ rest-answer d at end (bitsThatCount bytes) (parse d (drop at (bitsThatCount bytes))) e
+    (parse-exact d (drop at (bitsThatCount bytes)) (allBits-drop at (bitsThatCount bytes) (allBits-bitsThatCount bytes)))
     ∙ ap (λ (b : Bool). pick b (answerOf d at (parseAt bytes at d)) (refused 8)) (sym t)
 
 -- and where it is not
-pub unpack-refuses : (bytes : List ℕ) (at d : ℕ) → dropTaken d ≡ false → refused 8 ≡ unpackMeans bytes at d
+pub unpack-refuses : (bytes : List ℕ) (at d : ℕ) → dropKnown d ≡ false → refused 8 ≡ unpackMeans bytes at d
 unpack-refuses bytes at d t = ap (λ (b : Bool). pick b (answerOf d at (parseAt bytes at d)) (refused 8)) (sym t)

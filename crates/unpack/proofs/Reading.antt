@@ -10,11 +10,11 @@ use Rattle.ground.specs.Paper.{accepted}
 use lib.ListN.{length, length-drop, take, drop, getD}
 use lib.Seq.{getD-drop, take-suc, length-take-le}
 use lib.Pow.{pow-mono}
-use Rattle.code.specs.Meaning.{counted, fromBits, filled, signed}
+use Rattle.code.specs.Meaning.{bitsThatCount, fromBits, filled, signed}
 use Rattle.code.proofs.Numbers.{shift-is}
 use Rattle.unpack.specs.Steps.{zeroAnswer}
 use Rattle.code.specs.BitLists.{allBits, allBits-take, allBits-drop, fromBits-lt}
-use Rattle.code.specs.Positions.{fromBits-snoc, allBits-counted}
+use Rattle.code.specs.Positions.{fromBits-snoc, allBits-bitsThatCount}
 
 -- one bit more of a field
 pub field-more : (l : List ℕ) (at i x b : ℕ) → at + i < length l → x ≡ fromBits (take i (drop at l)) → b ≡ getD l (at + i) 0
@@ -52,24 +52,24 @@ pub fill-none : (left x : ℕ) → left ≡ 0 → x ≡ filled left x
 fill-none left x e = subst (λ (n : ℕ). x ≡ filled n x) (sym e) (omega arith)
 
 -- one turn of reading a field
-pub field-turn : (bytes : List ℕ) (at width i x b : ℕ) → i < width → at + width ≤ length (counted bytes) → width ≤ 16
-    → x ≡ fromBits (take i (drop at (counted bytes))) → b ≡ getD (counted bytes) (at + i) 0
-    → (i + 1 ≤ width) × (at + width ≤ length (counted bytes)) × (width ≤ 16)
-    × (x * 2 + b ≡ fromBits (take (i + 1) (drop at (counted bytes)))) × (x * 2 + b < 65536)
+pub field-turn : (bytes : List ℕ) (at width i x b : ℕ) → i < width → at + width ≤ length (bitsThatCount bytes) → width ≤ 16
+    → x ≡ fromBits (take i (drop at (bitsThatCount bytes))) → b ≡ getD (bitsThatCount bytes) (at + i) 0
+    → (i + 1 ≤ width) × (at + width ≤ length (bitsThatCount bytes)) × (width ≤ 16)
+    × (x * 2 + b ≡ fromBits (take (i + 1) (drop at (bitsThatCount bytes)))) × (x * 2 + b < 65536)
 field-turn bytes at width i x b h fits few p q =
-    let e = field-more (counted bytes) at i x b (omega arith) p q in (
+    let e = field-more (bitsThatCount bytes) at i x b (omega arith) p q in (
       omega arith,
       fits,
       few,
       e,
-      subst (λ (n : ℕ). n < 65536) (sym e) (field-small (counted bytes) at (i + 1) (allBits-counted bytes) (omega arith) (omega arith)),
+      subst (λ (n : ℕ). n < 65536) (sym e) (field-small (bitsThatCount bytes) at (i + 1) (allBits-bitsThatCount bytes) (omega arith) (omega arith)),
     )
 
 -- a field that was read whole
-pub field-done : (bytes : List ℕ) (at width i x : ℕ) → i ≤ width → width ≤ i → at + width ≤ length (counted bytes)
-    → x ≡ fromBits (take i (drop at (counted bytes)))
-    → (x ≡ fromBits (take width (drop at (counted bytes)))) × (x < 2 ^ width)
+pub field-done : (bytes : List ℕ) (at width i x : ℕ) → i ≤ width → width ≤ i → at + width ≤ length (bitsThatCount bytes)
+    → x ≡ fromBits (take i (drop at (bitsThatCount bytes)))
+    → (x ≡ fromBits (take width (drop at (bitsThatCount bytes)))) × (x < 2 ^ width)
 field-done bytes at width i x a b fits p =
     let e : i ≡ width = omega arith in
-    let f = p ∙ ap (λ (n : ℕ). fromBits (take n (drop at (counted bytes)))) e in
-    (f, subst (λ (n : ℕ). n < 2 ^ width) (sym f) (field-width (counted bytes) at width (allBits-counted bytes) fits))
+    let f = p ∙ ap (λ (n : ℕ). fromBits (take n (drop at (bitsThatCount bytes)))) e in
+    (f, subst (λ (n : ℕ). n < 2 ^ width) (sym f) (field-width (bitsThatCount bytes) at width (allBits-bitsThatCount bytes) fits))

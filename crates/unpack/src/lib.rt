@@ -8,7 +8,7 @@ ghost use Rattle.code.specs.Promise.{UnpackPromise};
 pub fn unpack(bytes: &[u8], at: u64, drop: u8) -> Unpacked
     ensures { λ r. ⌜ UnpackPromise (now (bytes .entry)) at drop r ⌝ }
 {
-    if code::drop_taken(drop) {
+    if code::drop_known(drop) {
         let end = code::end_of(bytes);
         read::code(bytes, at, end, code::wide(drop))
     } else {

@@ -3,7 +3,7 @@ use code::Unpacked;
 ghost use mathlib.Core.Path.{_≡_};
 ghost use Prim.Native.Nat.{_+_, _-_, _*_, _/_, _%_, _^_, _<_, _≤_};
 ghost use lib.ListN.{length, getD, take, drop as dropped};
-ghost use Rattle.code.specs.Meaning.{counted, parse, afterSign, afterRun, fromBits, filled, signed, bigField, largest, longestRun};
+ghost use Rattle.code.specs.Meaning.{bitsThatCount, parse, afterSign, afterRun, fromBits, filled, signed, bigField, largest, longestRun};
 ghost use Rattle.code.specs.Shapes.{Drop};
 ghost use Rattle.code.specs.Answers.{unpackedPaper};
 ghost use Rattle.unpack.specs.Steps.{restAnswer, normalAnswer, zeroAnswer, BigPlace, NormalPlace};
@@ -21,8 +21,8 @@ fn bit_of(byte: u8, place: u8) -> u8
 
 // The bit at a position that counts.
 fn bit(bytes: &[u8], at: u64) -> u8
-    requires { ⌜ at < length (counted (now bytes)) ⌝ }
-    ensures { λ r. ⌜ (r ≡ getD (counted (now (bytes .entry))) at 0) × (r < 2) ⌝ }
+    requires { ⌜ at < length (bitsThatCount (now bytes)) ⌝ }
+    ensures { λ r. ⌜ (r ≡ getD (bitsThatCount (now (bytes .entry))) at 0) × (r < 2) ⌝ }
 {
     let i = (at / 8) as usize;
     bit_of(bytes[i], (at % 8) as u8)
@@ -30,16 +30,16 @@ fn bit(bytes: &[u8], at: u64) -> u8
 
 // The same bit, as a number to count with.
 fn bit_wide(bytes: &[u8], at: u64) -> u32
-    requires { ⌜ at < length (counted (now bytes)) ⌝ }
-    ensures { λ r. ⌜ (r ≡ getD (counted (now (bytes .entry))) at 0) × (r < 2) ⌝ }
+    requires { ⌜ at < length (bitsThatCount (now bytes)) ⌝ }
+    ensures { λ r. ⌜ (r ≡ getD (bitsThatCount (now (bytes .entry))) at 0) × (r < 2) ⌝ }
 {
     bit(bytes, at) as u32
 }
 
 // The code at a position.
 pub(crate) fn code(bytes: &[u8], at: u64, end: u64, drop: u32) -> Unpacked
-    requires { ⌜ (end ≡ length (counted (now bytes))) × Drop drop ⌝ }
-    ensures { λ r. ⌜ unpackedPaper r ≡ restAnswer drop end (parse drop (dropped at (counted (now (bytes .entry))))) ⌝ }
+    requires { ⌜ (end ≡ length (bitsThatCount (now bytes))) × Drop drop ⌝ }
+    ensures { λ r. ⌜ unpackedPaper r ≡ restAnswer drop end (parse drop (dropped at (bitsThatCount (now (bytes .entry))))) ⌝ }
 {
     if at < end {
         first_bit(bytes, at, end, drop)
@@ -50,8 +50,8 @@ pub(crate) fn code(bytes: &[u8], at: u64, end: u64, drop: u32) -> Unpacked
 
 // The code at a position that is not past the end.
 fn first_bit(bytes: &[u8], at: u64, end: u64, drop: u32) -> Unpacked
-    requires { ⌜ (end ≡ length (counted (now bytes))) × Drop drop × (at < end) ⌝ }
-    ensures { λ r. ⌜ unpackedPaper r ≡ restAnswer drop end (parse drop (dropped at (counted (now (bytes .entry))))) ⌝ }
+    requires { ⌜ (end ≡ length (bitsThatCount (now bytes))) × Drop drop × (at < end) ⌝ }
+    ensures { λ r. ⌜ unpackedPaper r ≡ restAnswer drop end (parse drop (dropped at (bitsThatCount (now (bytes .entry))))) ⌝ }
 {
     if bit(bytes, at) == 0 {
         return Unpacked::Number {
@@ -68,8 +68,8 @@ fn first_bit(bytes: &[u8], at: u64, end: u64, drop: u32) -> Unpacked
 
 // What follows the sign: a run of ones and its zero, then the rest.
 fn after_sign(bytes: &[u8], at: u64, end: u64, drop: u32, sign: u32) -> Unpacked
-    requires { ⌜ (end ≡ length (counted (now bytes))) × Drop drop × (sign < 2) × (at ≤ end) ⌝ }
-    ensures { λ r. ⌜ unpackedPaper r ≡ restAnswer drop end (afterSign drop sign 0 (dropped at (counted (now (bytes .entry))))) ⌝ }
+    requires { ⌜ (end ≡ length (bitsThatCount (now bytes))) × Drop drop × (sign < 2) × (at ≤ end) ⌝ }
+    ensures { λ r. ⌜ unpackedPaper r ≡ restAnswer drop end (afterSign drop sign 0 (dropped at (bitsThatCount (now (bytes .entry))))) ⌝ }
 {
     let mut ones: u32 = 0;
     let mut here = at;
@@ -88,8 +88,8 @@ fn after_sign(bytes: &[u8], at: u64, end: u64, drop: u32, sign: u32) -> Unpacked
 
 // What follows a run of ones and its zero.
 fn after_run(bytes: &[u8], at: u64, end: u64, drop: u32, sign: u32, ones: u32) -> Unpacked
-    requires { ⌜ (end ≡ length (counted (now bytes))) × Drop drop × (sign < 2) × (at ≤ end) × (ones ≤ longestRun) ⌝ }
-    ensures { λ r. ⌜ unpackedPaper r ≡ restAnswer drop end (afterRun drop sign ones (dropped at (counted (now (bytes .entry))))) ⌝ }
+    requires { ⌜ (end ≡ length (bitsThatCount (now bytes))) × Drop drop × (sign < 2) × (at ≤ end) × (ones ≤ longestRun) ⌝ }
+    ensures { λ r. ⌜ unpackedPaper r ≡ restAnswer drop end (afterRun drop sign ones (dropped at (bitsThatCount (now (bytes .entry))))) ⌝ }
 {
     if ones == 0 {
         return small(bytes, at, end, drop, sign);
@@ -106,8 +106,8 @@ fn after_run(bytes: &[u8], at: u64, end: u64, drop: u32, sign: u32, ones: u32) -
 
 // A magnitude under 16: its field, drop 0's redundant zero and drop 3's 5.
 fn small(bytes: &[u8], at: u64, end: u64, drop: u32, sign: u32) -> Unpacked
-    requires { ⌜ (end ≡ length (counted (now bytes))) × Drop drop × (sign < 2) × (at ≤ end) ⌝ }
-    ensures { λ r. ⌜ unpackedPaper r ≡ restAnswer drop end (afterRun drop sign 0 (dropped at (counted (now (bytes .entry))))) ⌝ }
+    requires { ⌜ (end ≡ length (bitsThatCount (now bytes))) × Drop drop × (sign < 2) × (at ≤ end) ⌝ }
+    ensures { λ r. ⌜ unpackedPaper r ≡ restAnswer drop end (afterRun drop sign 0 (dropped at (bitsThatCount (now (bytes .entry))))) ⌝ }
 {
     let width = 4 - drop;
     if end - at < width as u64 {
@@ -135,7 +135,7 @@ fn small_zero(drop: u32, sign: u32, next: u64) -> Unpacked
 // A magnitude from 32 on, its run of ones and its parity having been read.
 fn big(bytes: &[u8], at: u64, end: u64, drop: u32, sign: u32, ones: u32, parity: u32) -> Unpacked
     requires { ⌜ BigPlace (now bytes) at end drop sign ones parity ⌝ }
-    ensures { λ r. ⌜ unpackedPaper r ≡ restAnswer drop end (bigField drop sign ones parity (dropped at (counted (now (bytes .entry))))) ⌝ }
+    ensures { λ r. ⌜ unpackedPaper r ≡ restAnswer drop end (bigField drop sign ones parity (dropped at (bitsThatCount (now (bytes .entry))))) ⌝ }
 {
     normal(
         bytes,
@@ -151,7 +151,7 @@ fn big(bytes: &[u8], at: u64, end: u64, drop: u32, sign: u32, ones: u32, parity:
 // A magnitude with a leading one: its field, and what is left out filled in.
 fn normal(bytes: &[u8], at: u64, end: u64, sign: u32, lead: u32, width: u32, left: u32) -> Unpacked
     requires { ⌜ NormalPlace (now bytes) at end sign lead width left ⌝ }
-    ensures { λ r. ⌜ unpackedPaper r ≡ normalAnswer end sign lead width left (dropped at (counted (now (bytes .entry)))) ⌝ }
+    ensures { λ r. ⌜ unpackedPaper r ≡ normalAnswer end sign lead width left (dropped at (bitsThatCount (now (bytes .entry)))) ⌝ }
 {
     if end - at < width as u64 {
         return Unpacked::RanOut;
@@ -162,8 +162,8 @@ fn normal(bytes: &[u8], at: u64, end: u64, sign: u32, lead: u32, width: u32, lef
 
 // The number of a field of so many bits.
 fn field(bytes: &[u8], at: u64, width: u32) -> u32
-    requires { ⌜ (at + width ≤ length (counted (now bytes))) × (width ≤ 16) ⌝ }
-    ensures { λ r. ⌜ (r ≡ fromBits (take width (dropped at (counted (now (bytes .entry)))))) × (r < 2 ^ width) ⌝ }
+    requires { ⌜ (at + width ≤ length (bitsThatCount (now bytes))) × (width ≤ 16) ⌝ }
+    ensures { λ r. ⌜ (r ≡ fromBits (take width (dropped at (bitsThatCount (now (bytes .entry)))))) × (r < 2 ^ width) ⌝ }
 {
     let mut x: u32 = 0;
     let mut i: u32 = 0;

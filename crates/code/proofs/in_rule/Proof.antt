@@ -11,12 +11,12 @@ use Rattle.code.proofs.in_rule.Tie as tie
 returns : tie.Need-returns
 returns c =
     let a = c .before .before .args in
-    ap (λ (b : Bool). b && leb (a .m) largest) (sym (sym (c .before .drop-taken .ensures) ∙ c .if1 .taken))
+    ap (λ (b : Bool). b && leb (a .m) largest) (sym (sym (c .before .drop-known .ensures) ∙ c .if1 .taken))
 
 returns-2 : tie.Need-returns-2
 returns-2 c =
     let a = c .before .before .args in
-    ap (λ (b : Bool). b && leb (a .m) largest) (sym (sym (c .before .drop-taken .ensures) ∙ c .if1 .left))
+    ap (λ (b : Bool). b && leb (a .m) largest) (sym (sym (c .before .drop-known .ensures) ∙ c .if1 .left))
 
 pub in-rule-spec : {M : Type 1} → statement M
 in-rule-spec = tie.close (tie.spec (λ c κs. search needs) returns returns-2)

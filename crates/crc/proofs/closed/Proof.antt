@@ -7,7 +7,7 @@ use Rattle.crc.proofs.closed.Tie as tie
 
 returns : tie.Need-returns
 returns c =
-    let w = c .before .before .before .before .args .window in
+    let w = c .before .before .before .before .args .fold in
     let first = c .before .before .before .through in
     let second = c .before .before .through2 in
     let third = c .before .through3 in

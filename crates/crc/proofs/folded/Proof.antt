@@ -8,7 +8,7 @@ use Rattle.crc.proofs.folded.Tie as tie
 returns : tie.Need-returns
 returns c =
     let a = c .before .before .before .before .before .before .args in
-    let w = a .window in
+    let w = a .fold in
     let top = c .before .before .before .before .top in
     let below = c .before .before .below-top in
     folds (w .first) (w .second) (w .third) (w .fourth) (a .word) (top .result) (below .result) (search needs) (search needs) (search needs)

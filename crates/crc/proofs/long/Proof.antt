@@ -1,21 +1,21 @@
--- `crc::long` meets its contract. The loop's invariant: the window and the bytes that are left take the register to the whole answer.
+-- `crc::long` meets its contract. The loop's invariant: the fold and the bytes that are left take the register to the whole answer.
 -- Assumes nothing.
 use Prim.Native.Nat.{ℕ, _≤_, _-_}
 use mathlib.Core.Path.{_≡_, ap, _∙_}
 use borrow.Author.Needs.{needs}
 use lib.ListN.{length, drop}
 use Rattle.crc.specs.Meaning.{run}
-use Rattle.crc.specs.Folding.{stand}
+use Rattle.crc.specs.Folding.{registerOf}
 use Rattle.crc.proofs.Reading.{goes-on}
 use Rattle.crc.proofs.long.Statement.{statement}
 use Rattle.crc.proofs.long.Tie as tie
 
 abbrev Inv-loop : tie.InvT-loop
-Inv-loop bytes window₀ i₀ window i =
-    (i ≤ length bytes) × (run (stand (window .first) (window .second) (window .third) (window .fourth)) (drop i bytes) ≡ run 0xffff bytes)
+Inv-loop bytes fold₀ i₀ fold i =
+    (i ≤ length bytes) × (run (registerOf fold) (drop i bytes) ≡ run 0xffff bytes)
 
 abbrev μ-loop : tie.MeasureT-loop
-μ-loop bytes window₀ i₀ window i = length bytes - i
+μ-loop bytes fold₀ i₀ fold i = length bytes - i
 
 loop-holds : tie.Need-loop-holds Inv-loop μ-loop
 loop-holds c = (search needs, c .opened .ensures)
@@ -24,7 +24,7 @@ loop-again : tie.Need-loop-again Inv-loop μ-loop
 loop-again c =
     let at = c .before .before .before in
     let l = at .before .before .before .args .bytes .now in
-    let w = at .loop .window in
+    let w = at .loop .fold in
     let next = c .before .word in (
       search needs,
       goes-on l (at .loop .i) (next .result) _ (w .first) (w .second) (w .third) (w .fourth) (run 0xffff l) (next .ensures) (c .folded .ensures)

@@ -14,11 +14,11 @@ returns-2 c = record { outcome = open-odd _ _ (c .before .before .if1 .left) (an
 
 returns-3 : tie.Need-returns-3
 returns-3 c =
-    let f = c .before .before in
-    let k = f .before .before .before .before in
-    let d = k .before .before in
-    let taken = answered-yes (d .before .sized .ensures .answer) (d .if2 .left) in
-    record { outcome = opened _ _ (d .before .before .if1 .left) taken (k .clear .ensures .memory) (f .fresh .ensures) }
+    let at-fresh = c .before .before in
+    let at-clear = at-fresh .before .before .before .before in
+    let at-if = at-clear .before .before in
+    let fits = answered-yes (at-if .before .sized .ensures .answer) (at-if .if2 .left) in
+    record { outcome = opened _ _ (at-if .before .before .if1 .left) fits (at-clear .clear .ensures .memory) (at-fresh .fresh .ensures) }
 
 pub open-spec : {M : Type 1} → statement M
 open-spec =

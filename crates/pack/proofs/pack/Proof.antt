@@ -4,7 +4,7 @@ use mathlib.Core.Path.{sym, ap, _∙_, subst}
 use lib.IntN.{natAbs}
 use mir.Syntax.{w32}
 use mir.ValLaws.{toZ-ofZ}
-use Rattle.code.specs.Meaning.{dropTaken, largest, signOf}
+use Rattle.code.specs.Meaning.{dropKnown, largest, signOf}
 use Rattle.code.specs.Shapes.{Drop, drop-of}
 use Rattle.pack.proofs.Writing.{pack-is, pack-refuses}
 use borrow.Author.Tests.{leb-true}
@@ -17,7 +17,7 @@ use Rattle.pack.proofs.pack.Tie as tie
 code-requires : tie.Need-code-requires
 code-requires c κs =
     let a = c .before .before .before .before .before .before .args in
-    let t = both-hold {a = dropTaken (a .drop)} (sym (c .before .before .before .in-rule .ensures) ∙ c .before .before .if1 .taken) in
+    let t = both-hold {a = dropKnown (a .drop)} (sym (c .before .before .before .in-rule .ensures) ∙ c .before .before .if1 .taken) in
     let small = leb-true (c .before .before .before .before .magnitude .result) largest (t .1) in
     (subst Drop (sym (c .before .wide .ensures)) (drop-of (a .drop) (t .0)), c .sign .ensures .bit, omega arith)
 

@@ -1,39 +1,34 @@
 -- `packet::write` meets its contract: header, data and checksum, one after the other.
 -- Assumes nothing.
-use native.Mathlib.Omega.{arith}
 use borrow.Author.Needs.{needs}
-use lib.ListN.{length-take}
-use Rattle.ground.specs.Laws.{put-there}
 use Rattle.packet.proofs.Writing.{too-much, too-short, done}
 use Rattle.packet.proofs.write.Statement.{statement}
 use Rattle.packet.proofs.write.Tie as tie
 
 returns : tie.Need-returns
 returns c =
-    let r = too-much (c .before .before .before .args .buffer .now) (c .before .before .before .args .apid) (c .before .before .before .args .payload .now)
-    (search needs) in
-    record { answer = r .answer; memory = r .memory }
+    let a = c .before .before .before .args in
+    record { outcome = too-much (a .buffer .now) (a .apid) (a .payload .now) (search needs) }
 
 returns-2 : tie.Need-returns-2
 returns-2 c =
-    let r = too-short (c .before .before .before .before .args .buffer .now) (c .before .before .before .before .args .apid)
-    (c .before .before .before .before .args .payload .now) (search needs) (search needs) in
-    record { answer = r .answer; memory = r .memory }
+    let a = c .before .before .before .before .args in
+    record { outcome = too-short (a .buffer .now) (a .apid) (a .payload .now) (search needs) (search needs) }
 
 returns-3 : tie.Need-returns-3
 returns-3 c =
-    let r = done (c .before .before .before .before .before .before .before .before .before .before .before .before .before .before .before .before .before
-    .before .args .buffer .now) (c .before .before .before .before .before .before .before .before .before .before .before .before .before .before .before
-    .before .before .before .args .apid) (c .before .before .before .before .before .before .before .before .before .before .before .before .before .before
-    .before .before .before .before .args .payload .now) (search needs) (search needs)
-    (c .before .before .before .before .before .before .before .before .before .before .before .before .put-header .ensures)
-    (c .before .before .before .before .before .before .before .before .copied .ensures) (c .before .before .before .before .checksum .ensures .answer)
-    (put-there (c .before .before .put-word .ensures) (search needs)) in
-    record { answer = r .answer; memory = r .memory }
+    let seal = c .before .before in
+    let copy = seal .before .before .before .before in
+    let head = copy .before .before .before .before in
+    let a = head .before .before .before .before .before .before .args in
+    record {
+      outcome = done (a .buffer .now) (a .apid) (a .payload .now) (search needs) (search needs) (head .put-header .ensures) (copy .copied .ensures)
+          (seal .seal .ensures);
+    }
 
 pub write-spec : {M : Type 1} → statement M
 write-spec =
     tie.close
     (tie.spec returns (λ c. search needs) returns-2 (λ c. search needs) (λ c. search needs) (λ c κs. search needs) (λ c. search needs)
-    (λ c. search needs) (λ c. search needs) (λ c. search needs) (λ c κs. search needs) (λ c. search needs) (λ c. simp length-take (omega arith))
-    (λ c κs. search needs) (λ c κs. search needs) (λ c. search needs) (λ c. search needs) returns-3)
+    (λ c. search needs) (λ c. search needs) (λ c. search needs) (λ c κs. search needs) (λ c κs. search needs) (λ c. search needs) (λ c. search needs)
+    returns-3)

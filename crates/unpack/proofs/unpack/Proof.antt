@@ -10,12 +10,12 @@ use Rattle.unpack.proofs.unpack.Tie as tie
 
 code-requires : tie.Need-code-requires
 code-requires c κs =
-    let t = c .before .before .before .drop-taken in
+    let t = c .before .before .before .drop-known in
     (c .before .end-of .ensures, subst Drop (sym (c .wide .ensures)) (drop-of _ (sym (t .ensures) ∙ c .before .before .if1 .taken)))
 
 returns : tie.Need-returns
 returns c =
-    let t = c .before .before .before .before .drop-taken in
+    let t = c .before .before .before .before .drop-known in
     let a = c .before .before .before .before .before .before .args in
     record {
       answer = unpack-is (now (a .bytes)) (a .at) (a .drop) _ _ (sym (t .ensures) ∙ c .before .before .before .if1 .taken)
@@ -24,7 +24,7 @@ returns c =
 
 returns-2 : tie.Need-returns-2
 returns-2 c =
-    let t = c .before .drop-taken in
+    let t = c .before .drop-known in
     let a = c .before .before .before .args in
     record { answer = unpack-refuses (now (a .bytes)) (a .at) (a .drop) (sym (t .ensures) ∙ c .if1 .left) }
 

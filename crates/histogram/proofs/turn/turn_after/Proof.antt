@@ -7,30 +7,39 @@ use Rattle.histogram.proofs.turn.turn_after.Tie as tie
 
 returns : tie.Need-returns
 returns c =
-    let d = c .before .before .before in
-    let a = d .before .before .before .args in
-    turn-last (a .state .now) (a .number) (a .window) (d .if1 .taken) (c .before .before .same-window .ensures) (c .before .if2 .taken)
+    let same = c .before .before in
+    let at-if = same .before in
+    let last = at-if .before in
+    let a = last .before .before .args in
+    turn-last (a .state .now) (a .number) (a .window) (last .is-last .ensures) (at-if .if1 .taken) (same .same-window .ensures) (c .before .if2 .taken)
+    (c .last-ask .ensures)
 
 returns-2 : tie.Need-returns-2
 returns-2 c =
-    let d = c .before .before in
-    let a = d .before .before .before .args in
-    turn-other (a .state .now) (a .number) (a .window) (d .if1 .taken) (c .before .same-window .ensures) (c .if2 .left)
+    let same = c .before in
+    let at-if = same .before in
+    let last = at-if .before in
+    let a = last .before .before .args in
+    turn-other (a .state .now) (a .number) (a .window) (last .is-last .ensures) (at-if .if1 .taken) (same .same-window .ensures) (c .if2 .left)
 
 returns-3 : tie.Need-returns-3
 returns-3 c =
-    let d = c .before .before .before in
-    let a = d .before .before .before .args in
-    turn-new (a .state .now) (a .number) (a .window) (d .if1 .left) (c .before .follows .ensures) (c .if3 .taken)
+    let next = c .before in
+    let at-if = next .before .before in
+    let last = at-if .before in
+    let a = last .before .before .args in
+    turn-new (a .state .now) (a .number) (a .window) (last .is-last .ensures) (at-if .if1 .left) (next .follows .ensures) (c .if3 .taken)
 
 returns-4 : tie.Need-returns-4
 returns-4 c =
-    let d = c .before .before .before in
-    let a = d .before .before .before .args in
-    turn-out (a .state .now) (a .number) (a .window) (d .if1 .left) (c .before .follows .ensures) (c .if3 .left)
+    let next = c .before in
+    let at-if = next .before .before in
+    let last = at-if .before in
+    let a = last .before .before .args in
+    turn-out (a .state .now) (a .number) (a .window) (last .is-last .ensures) (at-if .if1 .left) (next .follows .ensures) (c .if3 .left)
 
 pub turn-after-spec : {M : Type 1} → statement M
 turn-after-spec =
     tie.close
-    (tie.spec (λ c. search needs) (λ c κs. search needs) (λ c. search needs) (λ c. search needs) (λ c κs. search needs) returns returns-2 returns-3
-    returns-4)
+    (tie.spec (λ c κs. search needs) (λ c κs. search needs) (λ c κs. search needs) (λ c. search needs) (λ c κs. search needs) returns returns-2
+    returns-3 returns-4)

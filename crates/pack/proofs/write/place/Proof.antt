@@ -2,7 +2,7 @@
 -- Assumes nothing.
 use lib.Pow.{pow-pos}
 use Rattle.pack.proofs.Writing.{place-short, place-there}
-use Rattle.code.specs.Positions.{length-counted}
+use Rattle.code.specs.Positions.{length-bitsThatCount}
 use native.Mathlib.Omega.{arith}
 use borrow.Author.Needs.{needs}
 use Rattle.pack.proofs.write.place.Statement.{statement}
@@ -21,7 +21,7 @@ returns-2 c =
     place-short (a .buffer .now) (a .at) (a .number) (a .count) (e .result) (e .ensures) (omega arith)
 
 add-next : tie.Need-add-next
-add-next c = omega (arith, length-counted (c .before .before .before .before .before .args .buffer .now))
+add-next c = omega (arith, length-bitsThatCount (c .before .before .before .before .before .args .buffer .now))
 
 join-requires : tie.Need-join-requires
 join-requires c κs =
@@ -31,7 +31,7 @@ join-requires c κs =
 put-requires : tie.Need-put-requires
 put-requires c κs =
     let a = c .before .before .before .before .before .before .before .before .args in (
-      omega (arith, length-counted (a .buffer .now), c .before .before .to-byte-end .ensures .0),
+      omega (arith, length-bitsThatCount (a .buffer .now), c .before .before .to-byte-end .ensures .0),
       omega arith,
       omega (arith, c .before .before .to-byte-end .ensures .0),
       c .join .ensures .1,

@@ -1,7 +1,7 @@
 -- `pack::write::put` meets its contract: the first byte's part and the whole bytes after it are all the bits.
 -- Assumes nothing.
 use Prim.Native.Nat.{_-_, _%_, _*_, _+_, _/_}
-use Rattle.pack.proofs.Writing.{put-both, put-nothing, counted-same, first-lt}
+use Rattle.pack.proofs.Writing.{put-both, put-nothing, same-bits-count, first-lt}
 use native.Mathlib.Omega.{arith}
 use borrow.Author.Needs.{needs}
 use Rattle.pack.proofs.write.put.Statement.{statement}
@@ -22,7 +22,7 @@ put-bytes-requires c κs =
     let r = c .before .before .before .before .before .room-at in
     let t = c .before .before .before .before .before .before .if1 .taken in
     let p = c .before .before .before .put-part in
-    let q = counted-same (p .last .0) (s .args .buffer .now) (p .kept .0) in (
+    let q = same-bits-count (p .last .0) (s .args .buffer .now) (p .kept .0) in (
       omega (arith, s .pre .0, s .pre .2, r .ensures .0, q, t),
       omega (arith, s .pre .1),
       omega (arith, s .pre .2, r .ensures .0, t),

@@ -5,7 +5,7 @@ use Prim.Native.Nat.{_+_, _-_, _*_, _/_, _%_, _^_, _≤_}
 use lib.ListN.{length}
 use Rattle.ground.specs.Bits.{toBits, bitsOf}
 use Rattle.ground.specs.Putting.{put as putOver}
-use Rattle.code.specs.Positions.{length-counted}
+use Rattle.code.specs.Positions.{length-bitsThatCount}
 use Rattle.pack.proofs.Writing.{put-none, put-turn, put-done}
 use native.Mathlib.Omega.{arith}
 use Rattle.pack.proofs.write.put_bytes.Statement.{statement}
@@ -35,13 +35,13 @@ put-byte-requires : tie.Need-put-byte-requires Inv-loop μ-loop
 put-byte-requires c κs =
     let l = c .before .before .before .loop in
     let s = c .before .before .before .before .before in
-    omega (arith, s .pre .0, l .inv .0, l .inv .2, l .inv .3, length-counted (s .args .buffer .now), c .before .before .loop-test .taken)
+    omega (arith, s .pre .0, l .inv .0, l .inv .2, l .inv .3, length-bitsThatCount (s .args .buffer .now), c .before .before .loop-test .taken)
 
 add-i : tie.Need-add-i Inv-loop μ-loop
 add-i c =
     let l = c .before .before .before .before .before .before .loop in
     let s = c .before .before .before .before .before .before .before .before in
-    omega (arith, s .pre .0, l .inv .0, l .inv .2, length-counted (s .args .buffer .now))
+    omega (arith, s .pre .0, l .inv .0, l .inv .2, length-bitsThatCount (s .args .buffer .now))
 
 loop-less : tie.Need-loop-less Inv-loop μ-loop
 loop-less c =

@@ -1,6 +1,6 @@
 -- `pack::write::put_part` meets its contract: the byte that holds the position is stored with its last bits replaced.
 -- Assumes nothing.
-use Rattle.code.specs.Positions.{counted-inside}
+use Rattle.code.specs.Positions.{position-inside}
 use Rattle.pack.proofs.Writing.{part-stored, room-holds}
 use native.Mathlib.Omega.{arith}
 use borrow.Author.Needs.{needs}
@@ -8,7 +8,7 @@ use Rattle.pack.proofs.write.put_part.Statement.{statement}
 use Rattle.pack.proofs.write.put_part.Tie as tie
 
 slice-read-byte-wide : tie.Need-slice-read-byte-wide
-slice-read-byte-wide c = omega (arith, counted-inside (c .before .before .args .buffer .now) (c .before .before .args .at) (c .before .before .pre .0))
+slice-read-byte-wide c = omega (arith, position-inside (c .before .before .args .buffer .now) (c .before .before .args .at) (c .before .before .pre .0))
 
 filled-requires : tie.Need-filled-requires
 filled-requires c κs =
@@ -18,14 +18,14 @@ filled-requires c κs =
 slice-write-buffer : tie.Need-slice-write-buffer
 slice-write-buffer c =
     let s = c .before .before .before .before .before in
-    omega (arith, counted-inside (s .args .buffer .now) (s .args .at) (s .pre .0))
+    omega (arith, position-inside (s .args .buffer .now) (s .args .at) (s .pre .0))
 
 returns : tie.Need-returns
 returns c =
     let s = c .before .before .before .before .before in
     let a = s .args in
     part-stored (a .buffer .now) (a .at) (c .before .before .byte-wide .result) (c .before .room-at .result) (c .filled .result) (a .number)
-    (counted-inside _ _ (s .pre .0)) (c .before .before .byte-wide .ensures .0) (c .before .room-at .ensures .0) (c .filled .ensures .0)
+    (position-inside _ _ (s .pre .0)) (c .before .before .byte-wide .ensures .0) (c .before .room-at .ensures .0) (c .filled .ensures .0)
 
 pub put-part-spec : {M : Type 1} → statement M
 put-part-spec =

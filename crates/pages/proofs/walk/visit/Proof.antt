@@ -10,10 +10,10 @@ cast-word : tie.Need-cast-word
 cast-word c = omega (arith, c .slice-known .given (c .before .args .at))
 
 returns : tie.Need-returns
-returns c = (refl, omega (arith, c .before .slice-known .given (c .before .before .args .at)), rw (c .if1 .taken))
+returns c = ((refl, omega (arith, c .before .slice-known .given (c .before .before .args .at))), rw (c .if1 .taken))
 
 returns-2 : tie.Need-returns-2
-returns-2 c = (refl, omega (arith, c .before .slice-known .given (c .before .before .args .at)), rw (c .if1 .left))
+returns-2 c = ((refl, omega (arith, c .before .slice-known .given (c .before .before .args .at))), rw (c .if1 .left))
 
 pub visit-spec : {M : Type 1} → statement M
 visit-spec =

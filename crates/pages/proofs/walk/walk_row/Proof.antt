@@ -6,15 +6,14 @@ use native.Mathlib.Omega.{arith}
 use lib.ListN.{length}
 use borrow.Author.Needs.{needs}
 use Rattle.pages.proofs.Walking.{walk-cell}
-use Rattle.pages.specs.Meaning.{Walk, rowOf, walkOf}
+use Rattle.pages.specs.Meaning.{rowOf, walkAt, walkOf}
 use Rattle.pages.proofs.walk.walk_row.Statement.{statement}
 use Rattle.pages.proofs.walk.walk_row.Tie as tie
 
 abbrev Inv-loop : tie.InvT-loop
 Inv-loop memory₀ page clear start width sum total₀ column₀ memory total column =
-    (column ≤ width) × (length memory ≡ length memory₀) ×
-    (_≡_ {A = Walk} (record { memory = memory; sum = total }) (walkOf page clear (record { memory = memory₀; sum = sum }) (rowOf start column))) ×
-    (total ≤ sum + column * 4294967296)
+    (column ≤ width) × (length memory ≡ length memory₀) × (walkAt memory total ≡ walkOf page clear (walkAt memory₀ sum) (rowOf start column))
+    × (total ≤ sum + column * 4294967296)
 
 abbrev μ-loop : tie.MeasureT-loop
 μ-loop memory₀ page clear start width sum total₀ column₀ memory total column = width - column
@@ -23,19 +22,19 @@ loop-holds : tie.Need-loop-holds Inv-loop μ-loop
 loop-holds c = (search needs, refl, refl, omega arith)
 
 add-total : tie.Need-add-total Inv-loop μ-loop
-add-total c = omega (arith, c .before .before .visit .ensures .1)
+add-total c = omega (arith, c .before .before .visit .ensures .0 .1)
 
 loop-again : tie.Need-loop-again Inv-loop μ-loop
 loop-again c =
-    let a = c .before .before .before .before .before .before .before .before .args in (
+    let visit = c .before .before .visit in
+    let at-place = c .before .before .before .before in
+    let loop = at-place .before .before .loop in
+    let a = at-place .before .before .before .before .args in (
       omega arith,
-      c .before .before .visit .kept .0 ∙ c .before .before .before .before .before .before .loop .inv .1,
-      walk-cell (a .page) (a .clear) (record { memory = a .memory .now; sum = a .sum })
-          (c .before .before .before .before .before .before .loop .memory) (c .before .before .before .before .before .before .loop .total)
-          (a .start)
-          (c .before .before .before .before .before .before .loop .column) _ _ _ (c .before .before .before .before .before .before .loop .inv .2)
-          (c .before .before .before .before .place .ensures .0) (c .before .before .visit .ensures .0) (c .before .before .visit .ensures .2),
-      omega (arith, c .before .before .visit .ensures .1),
+      visit .kept .0 ∙ loop .inv .1,
+      walk-cell (a .page) (a .clear) (walkAt (a .memory .now) (a .sum)) (loop .memory) (loop .total) (a .start) (loop .column) _ _ _ (loop .inv .2)
+          (at-place .place .ensures .0) (visit .ensures .0 .0) (visit .ensures .1),
+      omega (arith, visit .ensures .0 .1),
     )
 
 same-length : tie.Need-same-length Inv-loop μ-loop
@@ -43,8 +42,9 @@ same-length c = c .before .loop .inv .1
 
 returns : tie.Need-returns Inv-loop μ-loop
 returns c =
-    let e : c .before .loop .column ≡ c .before .before .before .args .width = omega arith in
-    rw (← e) (c .before .loop .inv .2, c .before .loop .inv .3)
+    let loop = c .before .loop in
+    let e : loop .column ≡ c .before .before .before .args .width = omega arith in
+    rw (← e) (loop .inv .2, loop .inv .3)
 
 pub walk-row-spec : {M : Type 1} → statement M
 walk-row-spec =

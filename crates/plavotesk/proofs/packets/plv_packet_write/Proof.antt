@@ -2,22 +2,20 @@
 -- Assumes nothing.
 use Rattle.packet.proofs.Written.{the-type}
 use Rattle.packet.specs.Answers.{writtenPaper, writtenBack, written-home}
-use Rattle.plavotesk.proofs.Telling.{needs, refl, [], _∷_, tagOf, with-memory, accepts, refuses}
+use Rattle.plavotesk.proofs.Telling.{needs, refl, [], _∷_, tagOf, accepts-with, refuses-with}
 use Rattle.plavotesk.proofs.packets.plv_packet_write.Statement.{statement}
 use Rattle.plavotesk.proofs.packets.plv_packet_write.Tie as tie
 
 returns : tie.Need-returns
 returns c =
     let below = c .before .before .before .before .write in
-    with-memory
-    (refuses _ _ writtenPaper writtenBack written-home (tagOf the-type) (1 ∷ 2 ∷ []) (λ _. tt) (below .result)
-    (c .before .match .keys2) (below .ensures .answer) (c .written-number .ensures))
-    (below .ensures .memory)
+    refuses-with _ writtenPaper (below .result) (below .ensures .outcome) writtenBack written-home (tagOf the-type) (1 ∷ 2 ∷ []) (λ _. tt)
+    (c .before .match .keys2) (c .written-number .ensures)
 
 returns-2 : tie.Need-returns-2
 returns-2 c =
     let below = c .before .before .before .before .before .write in
-    with-memory (accepts _ _ writtenPaper (below .ensures .answer) (c .before .answer .given .1) refl) (below .ensures .memory)
+    accepts-with _ writtenPaper _ (below .ensures .outcome) (c .before .answer .given .1) refl
 
 pub plv-packet-write-spec : {M : Type 1} → statement M
 plv-packet-write-spec =

@@ -4,14 +4,14 @@ use mathlib.Core.Path.{_≡_, refl, _∙_}
 use Prim.Native.Nat.{_-_, _≤_}
 use native.Mathlib.Omega.{arith}
 use lib.ListN.{drop as dropped}
-use Rattle.code.specs.Meaning.{afterSign, counted, longestRun}
+use Rattle.code.specs.Meaning.{afterSign, bitsThatCount, longestRun}
 use Rattle.unpack.proofs.Parts.{answer-by, run-ends, run-goes-on, run-too-long, run-out}
 use Rattle.unpack.proofs.read.after_sign.Statement.{statement}
 use Rattle.unpack.proofs.read.after_sign.Tie as tie
 
 abbrev Inv-loop : tie.InvT-loop
 Inv-loop bytes at end drop sign ones₀ here₀ ones here =
-    (here ≤ end) × (ones ≤ longestRun) × (afterSign drop sign 0 (dropped at (counted bytes)) ≡ afterSign drop sign ones (dropped here (counted bytes)))
+    (here ≤ end) × (ones ≤ longestRun) × (afterSign drop sign 0 (dropped at (bitsThatCount bytes)) ≡ afterSign drop sign ones (dropped here (bitsThatCount bytes)))
 
 abbrev μ-loop : tie.MeasureT-loop
 μ-loop bytes at end drop sign ones₀ here₀ ones here = end - here

@@ -4,7 +4,7 @@ use mathlib.Core.Path.{_∙_}
 use native.Mathlib.Omega.{arith}
 use denote.Ref.{now}
 use lib.ListN.{drop as dropped}
-use Rattle.code.specs.Meaning.{counted}
+use Rattle.code.specs.Meaning.{bitsThatCount}
 use borrow.Author.Needs.{needs}
 use Rattle.code.specs.Magnitudes.{drop-small}
 use Rattle.unpack.proofs.Parts.{big-place, big-is}
@@ -24,7 +24,7 @@ returns : tie.Need-returns
 returns c =
     let p = c .before .before .pre in
     let a = c .before .before .args in
-    c .normal .ensures ∙ big-is (a .drop) (a .end) (a .sign) (a .ones) (a .parity) (dropped (a .at) (counted (now (a .bytes)))) (p .run) (p .parity)
+    c .normal .ensures ∙ big-is (a .drop) (a .end) (a .sign) (a .ones) (a .parity) (dropped (a .at) (bitsThatCount (now (a .bytes)))) (p .run) (p .parity)
 
 pub big-spec : {M : Type 1} → statement M
 big-spec =

@@ -3,15 +3,15 @@
 use mathlib.Core.Path.{sym, _∙_}
 use native.Mathlib.Omega.{arith}
 use borrow.Author.Needs.{needs}
-use Rattle.code.specs.Positions.{counted-bit, counted-inside}
+use Rattle.code.specs.Positions.{bit-that-counts, position-inside}
 use Rattle.unpack.proofs.read.bit.Statement.{statement}
 use Rattle.unpack.proofs.read.bit.Tie as tie
 
 shared-slice-read-bit-of : tie.Need-shared-slice-read-bit-of
-shared-slice-read-bit-of c = omega (arith, counted-inside (c .before .before .args .bytes .now) (c .before .before .args .at) (c .before .before .pre))
+shared-slice-read-bit-of c = omega (arith, position-inside (c .before .before .args .bytes .now) (c .before .before .args .at) (c .before .before .pre))
 
 returns : tie.Need-returns
-returns c = (c .bit-of .ensures .0 ∙ sym (counted-bit _ _ (c .before .before .before .pre)), c .bit-of .ensures .1)
+returns c = (c .bit-of .ensures .0 ∙ sym (bit-that-counts _ _ (c .before .before .before .pre)), c .bit-of .ensures .1)
 
 pub bit-spec : {M : Type 1} → statement M
 bit-spec = tie.close (tie.spec shared-slice-read-bit-of (λ c. search needs) (λ c κs. search needs) returns)

@@ -5,21 +5,21 @@ use Prim.Native.Nat.{_+_, _-_, _<_, _≤_}
 use native.Mathlib.Omega.{arith}
 use borrow.Author.Needs.{needs}
 use lib.ListN.{length, take, drop}
-use Rattle.code.specs.Meaning.{fromBits, counted}
-use Rattle.code.specs.Positions.{length-counted}
+use Rattle.code.specs.Meaning.{fromBits, bitsThatCount}
+use Rattle.code.specs.Positions.{length-bitsThatCount}
 use Rattle.unpack.proofs.Reading.{field-turn, field-done}
 use Rattle.unpack.proofs.read.field.Statement.{statement}
 use Rattle.unpack.proofs.read.field.Tie as tie
 
 abbrev Inv-loop : tie.InvT-loop
 Inv-loop bytes at width x₀ i₀ x i =
-    (i ≤ width) × (at + width ≤ length (counted bytes)) × (width ≤ 16) × (x ≡ fromBits (take i (drop at (counted bytes)))) × (x < 65536)
+    (i ≤ width) × (at + width ≤ length (bitsThatCount bytes)) × (width ≤ 16) × (x ≡ fromBits (take i (drop at (bitsThatCount bytes)))) × (x < 65536)
 
 abbrev μ-loop : tie.MeasureT-loop
 μ-loop bytes at width x₀ i₀ x i = width - i
 
 add-bit-wide : tie.Need-add-bit-wide Inv-loop μ-loop
-add-bit-wide c = omega (arith, length-counted (c .before .before .before .args .bytes .now))
+add-bit-wide c = omega (arith, length-bitsThatCount (c .before .before .before .args .bytes .now))
 
 loop-again : tie.Need-loop-again Inv-loop μ-loop
 loop-again c =
