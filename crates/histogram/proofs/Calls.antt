@@ -6,22 +6,23 @@ use mathlib.Core.List.{List, _++_}
 use Prim.Native.Nat.{ℕ, _<_, _≤_}
 use lib.Dec.{eqb}
 use lib.ListN.{drop, getD, length, replicate, set}
-use borrow.Author.Tests.{le-leb, lt-leb}
-use Rattle.ground.specs.Outcome.{outcomeOf, accept, refuse}
-use Rattle.ground.specs.Paper.{mapped}
+use borrow.Author.Tests.{eq-eqb, le-leb, lt-leb, ne-eqb}
+use Rattle.ground.specs.Outcome.{Outcome, outcomeOf, accept, refuse}
+use Rattle.ground.specs.Paper.{accepted, mapped, refused}
 use Rattle.pages.specs.Answers.{countPaper, takenPaper}
 use Rattle.pages.specs.Meaning.{sizedOf}
 use Rattle.pages.specs.Promise.{CountPromise, TakePromise}
 use Rattle.pages.specs.declared.CountAnswer.{CountAnswer}
 use Rattle.pages.specs.declared.Taken.{Taken}
 use Rattle.pages.specs.declared.Window.{Window}
-use Rattle.histogram.specs.Answers.{askPaper, incrementPaper}
-use Rattle.histogram.specs.Meaning.{Admits, CallOutcome, admission, admitted, askMeans, counting, done, fittingOf, flipMeans, incrementMeans}
-use Rattle.histogram.specs.Meaning.{keeping, lent, newMeans, openMeans, taking, turnMeans}
+use Rattle.histogram.specs.Answers.{askPaper, incrementPaper, incrementsPaper}
+use Rattle.histogram.specs.Meaning.{Admits, CallOutcome, Lent, admission, admitted, askMeans, counting, done, fittingOf, flipMeans, incrementMeans}
+use Rattle.histogram.specs.Meaning.{feedOf, feeding, incrementsMeans, keeping, lent, newMeans, nextAfterLast, nextMeans, openMeans, taking, turnMeans}
 use Rattle.histogram.specs.Turns.{turnOf}
 use Rattle.histogram.specs.Words.{flagOf, freshIn, keepIn, keptIn, pageIn, stateWords}
 use Rattle.histogram.specs.declared.AskAnswer.{AskAnswer}
 use Rattle.histogram.specs.declared.IncrementAnswer.{IncrementAnswer}
+use Rattle.histogram.specs.declared.IncrementsAnswer.{IncrementsAnswer}
 use Rattle.histogram.specs.declared.turn.Turn.{Turn}
 
 module _ (n : ℕ) (w : List ℕ) where
@@ -36,6 +37,22 @@ module _ (n : ℕ) (w : List ℕ) where
   -- the test on 2N
   pub fits-last : stateWords ≤ length w → sizedOf n ≡ true → eqb n (getD w 0 0) ≡ fittingOf n w
   fits-last h k = rw (le-leb stateWords (length w) h, k)
+
+module _ (w : List ℕ) where
+  -- fewer words than a state takes have no next number
+  pub next-short : length w < stateWords → refused 13 ≡ nextMeans w
+  unfolding nextMeans
+  next-short h = rw (lt-leb stateWords (length w) h)
+
+  -- nothing is kept
+  pub next-first : stateWords ≤ length w → getD w 2 0 ≡ 0 → accepted 1 ≡ nextMeans w
+  unfolding nextMeans
+  next-first h e = rw (le-leb stateWords (length w) h, eq-eqb (getD w 2 0) 0 e)
+
+  -- an ask is kept
+  pub next-last : stateWords ≤ length w → (getD w 2 0 ≡ 0 → ⊥) → nextAfterLast (getD w 3 0) ≡ nextMeans w
+  unfolding nextMeans
+  next-last h n = rw (le-leb stateWords (length w) h, ne-eqb (getD w 2 0) 0 n)
 
 -- the state's words set to 0, and then 2N put into the first
 pub freshened : (w w₀ : List ℕ) (i n : ℕ) → w ≡ replicate i 0 ++ drop i w₀ → i ≡ stateWords → set w 0 n ≡ freshIn w₀ n
@@ -64,7 +81,7 @@ module _ (m w : List ℕ) where
   admits h = rw h
 
   -- one that does not is refused by 13, whatever would come after it
-  pub by13 : (o : CallOutcome) → fittingOf (length m) w ≡ false → refuse 13 (lent m w) ≡ admitted m w o
+  pub by13 : {A : Type 0} (o : Outcome A Lent) → fittingOf (length m) w ≡ false → refuse 13 (lent m w) ≡ admitted m w o
   unfolding admission
   by13 o h = rw h
 
@@ -74,6 +91,12 @@ module _ (m w : List ℕ) where
       → outcomeOf (incrementPaper r) (lent m′ w) ≡ incrementMeans m w a
   unfolding incrementMeans
   increments a h e {m′ = m′} k r f = rw (h, ← e) (ap (λ x. outcomeOf x (lent m′ w)) f ∙ ap (counting w) (k .outcome))
+
+  -- a run of increments does what feeding the active page did
+  pub feeds : (addresses : List ℕ) → Admits m w → {p : Bool} → p ≡ pageIn w → (r : IncrementsAnswer) {m′ : List ℕ}
+      → outcomeOf (incrementsPaper r) m′ ≡ feedOf 0 m p addresses → outcomeOf (incrementsPaper r) (lent m′ w) ≡ incrementsMeans m w addresses
+  unfolding incrementsMeans
+  feeds addresses h e r f = rw (h, ← e) (ap (feeding w) f)
 
   -- active and idle exchanged
   pub flips : Admits m w → {p : Bool} → p ≡ not (pageIn w) → {f : ℕ} → f ≡ flagOf p → accept done (lent m (set w 1 f)) ≡ flipMeans m w

@@ -10,6 +10,7 @@ pub mod Outcomes
 pub mod Pages
 pub mod Conservation
 pub mod Stays
+pub mod Feeding
 pub mod Repeat
 pub mod Numbers
 pub mod Cases

@@ -1,18 +1,18 @@
 -- Histogram memory and numbered asks: what each call means, in document 01's words and order.
 -- Assumes nothing.
 use mathlib.Core.Bool.{Bool, not, _&&_}
-use mathlib.Core.List.{List}
+use mathlib.Core.List.{List, [], _∷_}
 use mathlib.Core.Path.{_≡_}
-use Prim.Native.Nat.{ℕ}
+use Prim.Native.Nat.{ℕ, suc}
 use lib.Dec.{eqb, leb}
 use lib.ListN.{getD, length, replicate}
 use Rattle.ground.specs.Choice.{pick}
 use Rattle.ground.specs.Outcome.{Outcome, outcomeOf, accept, refuse, onwardTo}
-use Rattle.ground.specs.Paper.{Paper, accepted, refused, mapped}
+use Rattle.ground.specs.Paper.{Paper, accepted, refusal, refused, mapped}
 use Rattle.pages.specs.Meaning.{countMeans, sizedOf, takeMeans}
 use Rattle.pages.specs.declared.Window.{Window}
-use Rattle.histogram.specs.Turns.{turnOf}
-use Rattle.histogram.specs.Words.{flipIn, freshIn, keepIn, keptIn, pageIn, stateWords}
+use Rattle.histogram.specs.Turns.{nextOf, turnOf}
+use Rattle.histogram.specs.Words.{Kept, Last, Nothing, flipIn, freshIn, keepIn, keptIn, pageIn, stateWords}
 use Rattle.histogram.specs.declared.turn.Turn.{Turn}
 use Rattle.histogram.specs.declared.turn.Turn.the-variants.{NewAsk, LastAsk, OtherWindow, OutOfTurn}
 
@@ -59,7 +59,7 @@ abbrev pub Admits : List ℕ → List ℕ → Type 0
 Admits memory state = admission memory state ≡ accepted tt
 
 -- what comes after it
-abbrev pub admitted : List ℕ → List ℕ → CallOutcome → CallOutcome
+abbrev pub admitted : {A : Type 0} → List ℕ → List ℕ → Outcome A Lent → Outcome A Lent
 admitted memory state o = onwardTo (λ x. o) (lent memory state) (admission memory state)
 
 -- what a call leaves that counted: counting's answer and memory, the state as it was
@@ -69,6 +69,30 @@ counting state o = outcomeOf (mapped (λ x. done) (o .answer)) (lent (o .leaves)
 -- "An increment adds 1 to a word of the active page": it counts there; refusals 13, then counting's 14, 16, 15
 unfoldable pub incrementMeans : List ℕ → List ℕ → ℕ → CallOutcome
 incrementMeans memory state address = admitted memory state (counting state (countMeans memory (pageIn state) address))
+
+-- of a run of increments: how many were counted, and the number of the refusal that ended it, 0 where none did
+pub record Fed : Type 0 where
+  pub count : ℕ
+  pub ended : ℕ
+
+-- a run goes on where an increment is counted, and ends at the first that would be refused
+abbrev pub goesOn : Paper (Unit {0}) → Outcome Fed (List ℕ) → ℕ → List ℕ → Outcome Fed (List ℕ)
+goesOn (accepted x) rest fed memory = rest
+goesOn (refusal n carried) rest fed memory = accept (record { count = fed; ended = n }) memory
+
+-- increments on a page, one address after the other, so many having been counted
+abbrev pub feedOf : ℕ → List ℕ → Bool → List ℕ → Outcome Fed (List ℕ)
+feedOf fed memory page [] = accept (record { count = fed; ended = 0 }) memory
+feedOf fed memory page (a ∷ rest) =
+    goesOn (countMeans memory page a .answer) (feedOf (suc fed) (countMeans memory page a .leaves) page rest) fed memory
+
+-- what a run leaves: its answer and memory, the state as it was
+abbrev pub feeding : List ℕ → Outcome Fed (List ℕ) → Outcome Fed Lent
+feeding state o = outcomeOf (o .answer) (lent (o .leaves) state)
+
+-- many increments in one call: one after the other, up to the first that would be refused; refusal 13
+unfoldable pub incrementsMeans : List ℕ → List ℕ → List ℕ → Outcome Fed Lent
+incrementsMeans memory state addresses = admitted memory state (feeding state (feedOf 0 memory (pageIn state) addresses))
 
 -- "A flip exchanges active and idle"; refusal 13
 unfoldable pub flipMeans : List ℕ → List ℕ → CallOutcome
@@ -92,6 +116,19 @@ turnMeans NewAsk memory state number w = newMeans memory state number w
 turnMeans (LastAsk sum) memory state number w = accept (again sum) (lent memory state)
 turnMeans OtherWindow memory state number w = refuse 18 (lent memory state)
 turnMeans OutOfTurn memory state number w = refuse 17 (lent memory state)
+
+-- "A new ask bears the number after the last accepted, 1 after opening, 0 after 65535"; 13 for a last number that no ask bears
+abbrev pub nextAfterLast : ℕ → Paper ℕ
+nextAfterLast number = pick (leb number 65535) (accepted (nextOf number)) (refused 13)
+
+-- the same after what is kept
+abbrev pub nextAfter : Kept → Paper ℕ
+nextAfter Nothing = accepted 1
+nextAfter (Last number w sum) = nextAfterLast number
+
+-- the number of the next new ask; refusal 13, also for fewer words than a state takes
+unfoldable pub nextMeans : List ℕ → Paper ℕ
+nextMeans state = pick (roomy state) (nextAfter (keptIn state)) (refused 13)
 
 -- an ask; refusals 13, then 18 or 17, 14, 16; a repeat meets only 13
 unfoldable pub askMeans : List ℕ → List ℕ → ℕ → Window → CallOutcome

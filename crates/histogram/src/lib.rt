@@ -9,9 +9,9 @@ ghost use Rattle.ground.specs.Outcome.{outcomeOf};
 ghost use Rattle.ground.specs.Paper.{mapped, numberOf};
 ghost use Rattle.pages.specs.Answers.{countPaper};
 ghost use Rattle.histogram.specs.Words.{flagOf, freshIn, keepIn, pageIn, stateWords};
-ghost use Rattle.histogram.specs.Meaning.{done, fittingOf, lent, newMeans};
-ghost use Rattle.histogram.specs.Answers.{openedPaper, incrementPaper, flipPaper, askPaper};
-ghost use Rattle.histogram.specs.Promise.{OpenPromise, IncrementPromise, FlipPromise, AskPromise};
+ghost use Rattle.histogram.specs.Meaning.{done, feedOf, fittingOf, lent, newMeans, nextAfterLast};
+ghost use Rattle.histogram.specs.Answers.{openedPaper, incrementPaper, incrementsPaper, nextPaper, flipPaper, askPaper};
+ghost use Rattle.histogram.specs.Promise.{OpenPromise, IncrementPromise, IncrementsPromise, NextPromise, FlipPromise, AskPromise};
 use pages::CountAnswer;
 pub use pages::FULL;
 use pages::Taken;
@@ -62,6 +62,18 @@ pub enum IncrementAnswer {
     AboveFull,
 }
 
+// What a run of increments answers: how many were counted, and the number of the refusal that ended it, 0 where none did.
+pub enum IncrementsAnswer {
+    Fed { count: u64, ended: u8 },
+    WrongMemory,
+}
+
+// What the number of the next ask answers.
+pub enum NextAnswer {
+    Number(u16),
+    WrongMemory,
+}
+
 // What a flip answers.
 pub enum FlipAnswer {
     Exchanged,
@@ -104,6 +116,29 @@ pub fn increment(memory: &mut [u32], state: &[u64], address: u32) -> IncrementAn
     }
     let counted = count(memory, active_page(state), address);
     increment_answer(counted)
+}
+
+// Increments at one address after the other, up to the first that would be refused.
+pub fn increments(memory: &mut [u32], state: &[u64], addresses: &[u32]) -> IncrementsAnswer
+    ensures { λ r. ⌜ IncrementsPromise (now (memory .entry)) (now (state .entry)) (now (addresses .entry)) r (now (memory .exit)) ⌝ }
+{
+    if !fitting(memory.len(), state) {
+        return IncrementsAnswer::WrongMemory;
+    }
+    feed(memory, active_page(state), addresses)
+}
+
+// The number that the next new ask bears.
+pub fn next(state: &[u64]) -> NextAnswer
+    ensures { λ r. ⌜ NextPromise (now (state .entry)) r ⌝ }
+{
+    if state.len() < STATE_WORDS {
+        return NextAnswer::WrongMemory;
+    }
+    if state[KEPT] == 0 {
+        return NextAnswer::Number(1);
+    }
+    following(state[NUMBER])
 }
 
 // Exchanges the active page and the idle one.
@@ -181,6 +216,26 @@ pub fn ask_number(a: AskAnswer) -> u8
     }
 }
 
+// Document 01's number of what a run of increments answers, 0 where it is accepted.
+pub fn increments_number(a: IncrementsAnswer) -> u8
+    ensures { λ r. ⌜ r ≡ numberOf (incrementsPaper a) ⌝ }
+{
+    match a {
+        IncrementsAnswer::Fed { count: _, ended: _ } => 0,
+        IncrementsAnswer::WrongMemory => 13,
+    }
+}
+
+// Document 01's number of what the number of the next ask answers, 0 where it is accepted.
+pub fn next_number(a: NextAnswer) -> u8
+    ensures { λ r. ⌜ r ≡ numberOf (nextPaper a) ⌝ }
+{
+    match a {
+        NextAnswer::Number(_) => 0,
+        NextAnswer::WrongMemory => 13,
+    }
+}
+
 // Makes the state of an opened memory of so many words: the first page active, nothing kept.
 fn fresh(state: &mut [u64], words: u64)
     requires { ⌜ stateWords ≤ length (now state) ⌝ }
@@ -234,6 +289,52 @@ fn increment_answer(counted: CountAnswer) -> IncrementAnswer
         CountAnswer::Full => IncrementAnswer::Full,
         CountAnswer::AboveFull => IncrementAnswer::AboveFull,
     }
+}
+
+// Increments on a page, one address after the other, up to the first that would be refused.
+fn feed(memory: &mut [u32], second: bool, addresses: &[u32]) -> IncrementsAnswer
+    ensures { λ r. ⌜ outcomeOf (incrementsPaper r) (now (memory .exit)) ≡ feedOf 0 (now (memory .entry)) second (now (addresses .entry)) ⌝ }
+{
+    let mut done = 0;
+    while done < addresses.len() {
+        let ended = count_number(count(memory, second, addresses[done]));
+        if ended != 0 {
+            return IncrementsAnswer::Fed {
+                count: done as u64,
+                ended,
+            };
+        }
+        done += 1;
+    }
+    IncrementsAnswer::Fed {
+        count: done as u64,
+        ended: 0,
+    }
+}
+
+// The number of what counting answered, 0 where it counted.
+fn count_number(counted: CountAnswer) -> u8
+    ensures { λ r. ⌜ r ≡ numberOf (countPaper counted) ⌝ }
+{
+    match counted {
+        CountAnswer::Counted => 0,
+        CountAnswer::WrongAddress => 14,
+        CountAnswer::Full => 15,
+        CountAnswer::AboveFull => 16,
+    }
+}
+
+// The number after the last accepted one: 0 after 65535.
+fn following(last: u64) -> NextAnswer
+    ensures { λ r. ⌜ nextPaper r ≡ nextAfterLast last ⌝ }
+{
+    if 65535 < last {
+        return NextAnswer::WrongMemory;
+    }
+    if last == 65535 {
+        return NextAnswer::Number(0);
+    }
+    NextAnswer::Number((last + 1) as u16)
 }
 
 // A new ask: refused, or its window taken and its sum kept.
