@@ -62,6 +62,12 @@ module _ {A L : Type 0} (held : A) {R : Type 0} (paper : R → Paper A) (a : R) 
       with-memory (refuses (λ (x : A). x) held paper back home tag keys never a one (ap (λ (x : Outcome A L). x .answer) p) k)
       (ap (λ (x : Outcome A L). x .leaves) p)
 
+  -- refused, in the only way there is
+  pub refuses-as-with : {s : R} {m n : ℕ} → a ≡ s → paper s ≡ refused m → n ≡ numberOf (paper a)
+      → _≡_ {A = (ℕ × A) × L} ((n, held), after) (toldWith o held)
+  refuses-as-with e r k =
+      with-memory (refuses-as (λ (x : A). x) held paper (ap (λ (x : Outcome A L). x .answer) p) e r k) (ap (λ (x : Outcome A L). x .leaves) p)
+
 module _ {Holds : Paper ℕ → Type 0} (held : ℕ) {R : Type 0} (paper : R → Paper ℕ) where
   -- the same of a call by a sentence
   pub accepts-so : {a s : R} {v : ℕ} → Holds (paper a) → a ≡ s → paper s ≡ accepted v → Sentence Holds held (0, v)

@@ -15,6 +15,10 @@ use Rattle.histogram.specs.Meaning.{Value, done, new, again}
 use Rattle.rate.specs.declared.record.Reading.{Reading}
 use Rattle.rate.specs.declared.record.Reading.the-variants.{Exact, Between}
 
+-- the version of this interface, PLV_VERSION of the header
+abbrev pub interface : ℕ
+interface = 1
+
 -- "Each returns its number, and nothing else unless said above": 0 and what the values say where accepted; the number, and what the places held, where refused
 unfoldable pub toldAs : {A X : Type 0} → (A → X) → Paper A → X → ℕ × X
 toldAs places (accepted values) held = (0, places values)

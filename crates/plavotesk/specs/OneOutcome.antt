@@ -13,12 +13,14 @@ use Rattle.format.specs.Meaning.{floatValue}
 use Rattle.format.specs.Codes.{takes-one}
 use Rattle.cadence.specs.Sentence.{level-one}
 use Rattle.pages.specs.declared.Window.{Window}
-use Rattle.plavotesk.specs.Meaning.{told, AskValues, Edges}
+use Rattle.plavotesk.specs.Meaning.{told, interface, AskValues, Edges}
 use Rattle.plavotesk.specs.Promise.{PacketFindPromise, PacketHeaderPromise, PacketPayloadPromise, PacketWritePromise}
 use Rattle.plavotesk.specs.Promise.{MessageReadPromise, MessageWritePromise, CodePackPromise, CodeUnpackPromise, ReadingPromise, RatePromise}
 use Rattle.plavotesk.specs.Promise.{Sentence, Float16CodePromise, Float8CodePromise, Int24Promise, LevelSecondsPromise}
 use Rattle.plavotesk.specs.Promise.{SecondBeginningPromise, SecondEndingPromise}
 use Rattle.plavotesk.specs.Promise.{HistogramOpenPromise, HistogramIncrementPromise, HistogramFlipPromise, HistogramAskPromise}
+use Rattle.plavotesk.specs.Promise.{HistogramIncrementsPromise, HistogramNextPromise}
+use Rattle.histogram.specs.Meaning.{Fed}
 
 -- a promise that one outcome meets
 abbrev pub One : {O : Type 0} → (O → Type 0) → Type 0
@@ -92,9 +94,19 @@ plv-histogram-open-one memory state o p = one-value
 pub plv-histogram-increment-one : (memory state : List ℕ) (address : ℕ) → One (HistogramIncrementPromise memory state address)
 plv-histogram-increment-one memory state address o p = one-value
 
+pub plv-histogram-increments-one : (memory state addresses : List ℕ) (held : Fed) → One (HistogramIncrementsPromise memory state addresses held)
+plv-histogram-increments-one memory state addresses held o p = one-value
+
+pub plv-histogram-next-one : (state : List ℕ) (held : ℕ) → One (HistogramNextPromise state held)
+plv-histogram-next-one state held o p = one-value
+
 pub plv-histogram-flip-one : (memory state : List ℕ) → One (HistogramFlipPromise memory state)
 plv-histogram-flip-one memory state o p = one-value
 
 pub plv-histogram-ask-one : (memory state : List ℕ) (number : ℕ) (window : Window) (held : AskValues)
     → One (HistogramAskPromise memory state number window held)
 plv-histogram-ask-one memory state number window held o p = one-value
+
+-- the version
+pub plv-version-one : {m n : ℕ} → m ≡ interface → n ≡ interface → m ≡ n
+plv-version-one p q = one-value p q

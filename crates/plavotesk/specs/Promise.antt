@@ -13,7 +13,7 @@ use Rattle.rate.specs.Meaning.{ReadingValues, RateValues, readingMeans, rateMea
 use Rattle.format.specs.Meaning.{floatValue, Takes, int24Means}
 use Rattle.cadence.specs.Meaning.{Begins, Ends, secondsMeans}
 use Rattle.pages.specs.declared.Window.{Window}
-use Rattle.histogram.specs.Meaning.{CallOutcome, askMeans, flipMeans, incrementMeans, openMeans}
+use Rattle.histogram.specs.Meaning.{CallOutcome, Fed, Lent, askMeans, flipMeans, incrementMeans, incrementsMeans, nextMeans, openMeans}
 use Rattle.plavotesk.specs.Meaning.{toldAs, told, toldWith, toldFound, partOf, Edges, edgesOf, AskValues, toldAsk}
 
 -- finding: the first packet's place, and the bytes skipped before it, with 20 as well
@@ -104,6 +104,14 @@ HistogramOpenPromise memory state o = o ≡ leftBy (openMeans memory state)
 -- an increment: the memory; the state is lent unchangeable
 abbrev pub HistogramIncrementPromise : List ℕ → List ℕ → ℕ → Left → Type 0
 HistogramIncrementPromise memory state address o = o ≡ leftBy (incrementMeans memory state address)
+
+-- a run of increments: how many were counted, and by which number it ended; the memory; the state is lent unchangeable
+abbrev pub HistogramIncrementsPromise : List ℕ → List ℕ → List ℕ → Fed → (ℕ × Fed) × Lent → Type 0
+HistogramIncrementsPromise memory state addresses held o = o ≡ toldWith (incrementsMeans memory state addresses) held
+
+-- the next ask: its number
+abbrev pub HistogramNextPromise : List ℕ → ℕ → ℕ × ℕ → Type 0
+HistogramNextPromise state held o = o ≡ told (nextMeans state) held
 
 -- a flip: the state; the memory is lent unchangeable
 abbrev pub HistogramFlipPromise : List ℕ → List ℕ → Left → Type 0

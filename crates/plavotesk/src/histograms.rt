@@ -1,10 +1,13 @@
 // Histogram memory and numbered asks; the state is words that the caller lends and keeps.
 use histogram::AskAnswer;
+use histogram::IncrementsAnswer;
+use histogram::NextAnswer;
 use histogram::Window;
 ghost use mathlib.Core.Path.{_≡_};
 ghost use Rattle.histogram.specs.Answers.{askPaper};
+ghost use Rattle.histogram.specs.Meaning.{lent};
 ghost use Rattle.plavotesk.specs.Meaning.{toldAsk, windowOf};
-ghost use Rattle.plavotesk.specs.Promise.{HistogramOpenPromise, HistogramIncrementPromise, HistogramFlipPromise, HistogramAskPromise};
+ghost use Rattle.plavotesk.specs.Promise.{HistogramOpenPromise, HistogramIncrementPromise, HistogramFlipPromise, HistogramAskPromise, HistogramIncrementsPromise, HistogramNextPromise};
 
 // Takes 2N words, sets them all to 0, and makes the state of an opened memory in lent words; 13.
 #[no_mangle]
@@ -22,6 +25,43 @@ pub extern "C" fn plv_histogram_increment(memory: &mut [u32], state: &[u64], add
 {
     let answer = histogram::increment(memory, state, address);
     histogram::increment_number(answer)
+}
+
+// Adds 1 for each address, one after the other, up to the first that would be refused: how many, and by which number it ended; 13.
+#[no_mangle]
+pub extern "C" fn plv_histogram_increments(
+    memory: &mut [u32],
+    state: &[u64],
+    addresses: &[u32],
+    count: &mut u64,
+    ended: &mut u8,
+) -> u8
+    ensures { λ r. ⌜ HistogramIncrementsPromise (now (memory .entry)) (now (state .entry)) (now (addresses .entry)) (record { count = now (count .entry); ended = now (ended .entry) }) ((r, record { count = now (count .exit); ended = now (ended .exit) }), lent (now (memory .exit)) (now (state .entry))) ⌝ }
+{
+    let answer = histogram::increments(memory, state, addresses);
+    let IncrementsAnswer::Fed {
+        count: fed,
+        ended: by,
+    } = answer
+    else {
+        return histogram::increments_number(answer);
+    };
+    *count = fed;
+    *ended = by;
+    0
+}
+
+// The number that the next new ask bears; 13.
+#[no_mangle]
+pub extern "C" fn plv_histogram_next(state: &[u64], number: &mut u16) -> u8
+    ensures { λ r. ⌜ HistogramNextPromise (now (state .entry)) (now (number .entry)) (r, now (number .exit)) ⌝ }
+{
+    let answer = histogram::next(state);
+    let NextAnswer::Number(following) = answer else {
+        return histogram::next_number(answer);
+    };
+    *number = following;
+    0
 }
 
 // Exchanges the active page and the idle one; 13.
