@@ -6,15 +6,23 @@ use mathlib.Core.List.{List, [], _∷_, map}
 use Prim.Native.Nat.{ℕ, zero, suc, _+_, _<_, _≤_, zero-le}
 use native.Mathlib.Nat.{add-zero}
 use native.Mathlib.Omega.{arith}
+use borrow.Author.Tests.{eq-eqb, ne-eqb, eqb-true}
+use lib.Dec.{eqb, leb}
 use lib.ListN.{length, take, getD}
-use Rattle.ground.specs.Outcome.{Outcome, accept, outcomeOf, refuse}
-use Rattle.ground.specs.Paper.{Paper, accepted, refusal, mapped, numberOf, refused-not}
+use Rattle.ground.specs.Choice.{pick-elim}
+use Rattle.ground.specs.Outcome.{Outcome, Stays, refuse}
+use Rattle.ground.specs.Paper.{Paper, accepted, refusal, refused, mapped, numberOf, refused-not, accepted-same}
 use Rattle.pages.specs.Meaning.{countMeans}
 use Rattle.pages.specs.Outcomes.{count-elim}
-use Rattle.histogram.specs.Meaning.{Admits, CallOutcome, Fed, admission, counting, done, feedOf, feeding, goesOn, incrementMeans, incrementsMeans, lent}
-use Rattle.histogram.specs.Runs.{Call, increment, Ledger, acceptedBy, answered, run, step}
+use Rattle.pages.specs.declared.Window.{Window}
+use Rattle.histogram.specs.Meaning.{Admits, CallOutcome, Fed, Lent, counting, done, feedOf, feeding, goesOn, incrementMeans, incrementsMeans}
+use Rattle.histogram.specs.Meaning.{lent, nextAfter}
+use Rattle.histogram.specs.Runs.{Call, increment, flip, ask, Ledger, NoNew, acceptedBy, answered, callMeans, isNew, run, step}
+use Rattle.histogram.specs.Outcomes.{admitted-elim, call-elim}
 use Rattle.histogram.specs.Stays.{call-admits}
-use Rattle.histogram.specs.Words.{pageIn}
+use Rattle.histogram.specs.Turns.{nextOf, turnOf}
+use Rattle.histogram.specs.declared.turn.Turn.the-variants.{NewAsk}
+use Rattle.histogram.specs.Words.{Kept, Last, Nothing, pageIn}
 
 -- what a run of increments from a ledger leaves: the first so many, one by one, all of them accepted; it ended at the address that would be refused
 -- next, by that refusal's number, or with the last
@@ -145,3 +153,50 @@ feed-run (a ∷ rest) before l h =
           whole = λ z. absurd (omega (arith, refused-some (l .memory) (pageIn (l .state)) a n carried e));
           next = λ k. sym (counts-number l a h ∙ ap numberOf e);
         }
+
+-- many increments in one call: a run on the active page, or a refusal that leaves memory and state
+pub increments-elim : (m w addresses : List ℕ) (P : Outcome Fed Lent → Type 0)
+    → (Admits m w → P (feeding w (feedOf 0 m (pageIn w) addresses)))
+    → ((n : ℕ) → 0 < n → P (refuse n (lent m w)))
+    → P (incrementsMeans m w addresses)
+unfolding incrementsMeans
+increments-elim m w addresses P p q = admitted-elim m w P (feeding w (feedOf 0 m (pageIn w) addresses)) p q
+
+-- demand 1 of it: refused, it leaves memory and state as they were
+pub increments-stays : (m w addresses : List ℕ) → Stays (lent m w) (incrementsMeans m w addresses)
+increments-stays m w addresses =
+    increments-elim m w addresses (Stays (lent m w))
+    (λ h f. absurd (f (ap numberOf (feed-run addresses 0 (record { memory = m; state = w; cleared = 0; increments = 0 }) h .answer))))
+    (λ n z f. refl)
+
+-- an increment is no new ask
+abbrev Old : Call → CallOutcome → Type 0
+Old (increment address) o = isNew (o .answer) ≡ false
+Old flip o = Unit {0}
+Old (ask number v) o = Unit {0}
+
+refusal-old : (m w : List ℕ) (c : Call) (n : ℕ) → Old c (refuse n (lent m w))
+refusal-old m w (increment address) n = refl
+refusal-old m w flip n = tt
+refusal-old m w (ask number v) n = tt
+
+increment-old : (m w : List ℕ) (a : ℕ) → isNew (callMeans m w (increment a) .answer) ≡ false
+increment-old m w a =
+    call-elim Old m w (λ c n z. refusal-old m w c n) (λ h b k. refl) (λ h. tt) (λ h number v k t. tt) (λ h number sum v. tt) (increment a)
+
+-- nor is any of a run
+pub run-old : (l : Ledger) (addresses : List ℕ) → NoNew l (map increment addresses)
+run-old l [] = tt
+run-old l (a ∷ rest) = (increment-old (l .memory) (l .state) a, run-old (step l (increment a)) rest)
+
+-- the number of the next ask is the turn of a new one, whatever its window
+pub next-is-new : (kept : Kept) (n : ℕ) (v : Window) → nextAfter kept ≡ accepted n → turnOf kept n v ≡ NewAsk
+next-is-new Nothing n v e = let same : 1 ≡ n = accepted-same e in rw (eq-eqb n 1 (sym same))
+next-is-new (Last k w sum) n v e =
+    pick-elim (λ (p : Paper ℕ). p ≡ accepted n → turnOf (Last k w sum) n v ≡ NewAsk) (leb k 65535) (accepted (nextOf k)) (refused 13)
+    (λ h q. let same : nextOf k ≡ n = accepted-same q in rw (ne-eqb n k (λ z. other k (same ∙ z)), eq-eqb n (nextOf k) (sym same)))
+    (λ h q. absurd (refused-not q))
+    e
+  where
+    other : (k : ℕ) → nextOf k ≡ k → ⊥
+    other k = pick-elim (λ (m : ℕ). m ≡ k → ⊥) (eqb k 65535) 0 (k + 1) (λ h q. omega (arith, eqb-true k 65535 h)) (λ h q. omega arith)

@@ -15,7 +15,7 @@ use Rattle.pages.specs.Meaning.{lastOf, putOf, sizedOf, walkTaken, windowWalk, 
 use Rattle.pages.specs.Outcomes.{count-elim, take-elim}
 use Rattle.pages.specs.declared.Window.{Window}
 use Rattle.histogram.specs.Meaning.{Admits, CallOutcome, admission, admitted, again, askMeans, counting, done, fittingOf, flipMeans, incrementMeans}
-use Rattle.histogram.specs.Meaning.{lent, newMeans, openMeans, roomy, taking, turnMeans}
+use Rattle.histogram.specs.Meaning.{Lent, lent, newMeans, openMeans, roomy, taking, turnMeans}
 use Rattle.histogram.specs.Runs.{Call, increment, flip, ask, callMeans}
 use Rattle.histogram.specs.Turns.{turnOf}
 use Rattle.histogram.specs.Words.{flipIn, freshIn, keptIn, pageIn}
@@ -49,7 +49,7 @@ module _ (m w : List ℕ) where
   open-stays = open-elim (Stays (lent m w)) (λ h f. absurd (f refl)) (λ n z f. refl)
 
   -- admission: what comes after it, or a refusal that leaves memory and state
-  pub admitted-elim : (P : CallOutcome → Type 0) (o : CallOutcome) → (Admits m w → P o) → ((n : ℕ) → 0 < n → P (refuse n (lent m w)))
+  pub admitted-elim : {A : Type 0} (P : Outcome A Lent → Type 0) (o : Outcome A Lent) → (Admits m w → P o) → ((n : ℕ) → 0 < n → P (refuse n (lent m w)))
       → P (admitted m w o)
   unfolding admission
   admitted-elim P o p q =

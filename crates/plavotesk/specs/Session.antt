@@ -1,45 +1,47 @@
 -- Sessions of exported calls, by what a bench in C, Rust or Python sees of them: the numbers that they answer, the sums in their lent places, memory and state.
 -- Assumes nothing.
 use mathlib.Core.Bool.{Bool, true, false, _&&_}
-use mathlib.Core.Path.{_≡_, refl, sym, ap, ap₂, _∙_}
-use mathlib.Core.List.{List, [], _∷_, map}
+use mathlib.Core.Path.{_≡_, refl, sym, ap, ap₂, _∙_, subst}
+use mathlib.Core.List.{List, [], _∷_, _++_, map}
 use Prim.Native.Nat.{ℕ, _+_, _<_}
+use native.Mathlib.Nat.{add-zero, zero-add}
 use native.Mathlib.Omega.{arith}
 use borrow.Author.Tests.{ne-eqb}
 use lib.Dec.{eqb}
+use lib.ListN.{take}
 use Rattle.ground.specs.Choice.{pick}
 use Rattle.ground.specs.Outcome.{accept, refuse}
 use Rattle.ground.specs.Paper.{Paper, accepted, refusal, numberOf}
 use Rattle.pages.specs.declared.Window.{Window}
-use Rattle.histogram.specs.Conservation.{call-conserves, opened-balanced}
-use Rattle.histogram.specs.Meaning.{CallOutcome, Value, again, askMeans, done, lent, new, openMeans}
+use Rattle.histogram.specs.Conservation.{Balanced, opened-balanced, run-balanced}
+use Rattle.histogram.specs.Feeding.{FedRun, feed-run, increments-elim, run-old}
+use Rattle.histogram.specs.Meaning.{CallOutcome, Fed, Lent, Value, again, askMeans, done, feedOf, feeding, lent, new, openMeans}
 use Rattle.histogram.specs.Outcomes.{call-elim, open-elim}
 use Rattle.histogram.specs.Repeat.{repeat}
-use Rattle.histogram.specs.Runs.{Call, increment, flip, ask, Ledger, NoNew, acceptedBy, answered, callMeans, clearedBy, isNew, run, step, total}
-use Rattle.plavotesk.specs.Meaning.{AskValues, toldAsk}
-use Rattle.plavotesk.specs.Promise.{HistogramAskPromise, HistogramFlipPromise, HistogramIncrementPromise, HistogramOpenPromise, Left, leftBy}
+use Rattle.histogram.specs.Runs.{Call, increment, flip, ask, Ledger, NoNew, acceptedBy, callMeans, clearedBy, isNew, opening, run, run-append, step, total}
+use Rattle.histogram.specs.Words.{pageIn}
+use Rattle.plavotesk.specs.Meaning.{AskValues, told, toldAs, toldAsk, toldWith}
+use Rattle.plavotesk.specs.Promise.{HistogramAskPromise, HistogramFlipPromise, HistogramIncrementPromise, HistogramIncrementsPromise}
+use Rattle.plavotesk.specs.Promise.{HistogramOpenPromise, Left, leftBy}
 
--- a call that a bench made, with what it left; an ask also with what its lent places held, and hold
+-- a call that a bench made, with what it left; an ask and a run of increments also with what their lent places held, and hold
 pub data Made : Type 0 where
   incremented : ℕ → Left → Made
+  fed : List ℕ → Fed → (ℕ × Fed) × Lent → Made
   flipped : Left → Made
   asked : ℕ → Window → AskValues → Left → AskValues → Made
-
--- which call it was
-abbrev pub callOf : Made → Call
-callOf (incremented address o) = increment address
-callOf (flipped o) = flip
-callOf (asked number v held o values) = ask number v
 
 -- what it left: its number, memory and state
 abbrev pub leftOf : Made → Left
 leftOf (incremented address o) = o
+leftOf (fed addresses held o) = record { number = o .0 .0; memory = o .1 .memory; state = o .1 .state }
 leftOf (flipped o) = o
 leftOf (asked number v held o values) = o
 
 -- made on memory and state, it kept its promise
 abbrev pub Meets : List ℕ → List ℕ → Made → Type 0
 Meets m w (incremented address o) = HistogramIncrementPromise m w address o
+Meets m w (fed addresses held o) = HistogramIncrementsPromise m w addresses held o
 Meets m w (flipped o) = HistogramFlipPromise m w o
 Meets m w (asked number v held o values) = HistogramAskPromise m w number v held (o, values)
 
@@ -53,21 +55,24 @@ abbrev pub lastLeft : Left → List Made → Left
 lastLeft o [] = o
 lastLeft o (x ∷ xs) = lastLeft (leftOf x) xs
 
--- an increment that answered 0 was accepted
+-- an increment that answered 0 was accepted; of a run that answered 0, as many as it says
 abbrev pub acceptedIn : Made → ℕ
 acceptedIn (incremented address o) = pick (eqb (o .number) 0) 1 0
+acceptedIn (fed addresses held o) = pick (eqb (o .0 .0) 0) (o .0 .1 .count) 0
 acceptedIn (flipped o) = 0
 acceptedIn (asked number v held o values) = 0
 
 -- an ask that answered 0, and not again, was new
 abbrev pub newIn : Made → Bool
 newIn (incremented address o) = false
+newIn (fed addresses held o) = false
 newIn (flipped o) = false
 newIn (asked number v held o values) = eqb (o .number) 0 && eqb (values .again) 0
 
 -- what a call cleared and handed out: the sum of a new clearing ask
 abbrev pub clearedIn : Made → ℕ
 clearedIn (incremented address o) = 0
+clearedIn (fed addresses held o) = 0
 clearedIn (flipped o) = 0
 clearedIn (asked number v held o values) = pick (eqb (o .number) 0 && eqb (values .again) 0) (pick (v .clear) (values .sum) 0) 0
 
@@ -81,11 +86,17 @@ abbrev pub NoneNew : List Made → Type 0
 NoneNew [] = Unit {0}
 NoneNew (x ∷ xs) = (newIn x ≡ false) × NoneNew xs
 
--- a call left what the library's call leaves on the very memory and state that were lent
-pub meets-left : (m w : List ℕ) (x : Made) → Meets m w x → leftOf x ≡ leftBy (callMeans m w (callOf x))
-meets-left m w (incremented address o) e = e
-meets-left m w (flipped o) e = e
-meets-left m w (asked number v held o values) e = ap (λ (y : Left × AskValues). y .0) e
+-- which calls of the library it was: a run is its single increments
+abbrev callsOf : Made → List Call
+callsOf (incremented address o) = increment address ∷ []
+callsOf (fed addresses held o) = pick (eqb (o .0 .0) 0) (map increment (take (o .0 .1 .count) addresses)) []
+callsOf (flipped o) = flip ∷ []
+callsOf (asked number v held o values) = ask number v ∷ []
+
+-- those of a session
+abbrev callsOver : List Made → List Call
+callsOver [] = []
+callsOver (x ∷ xs) = callsOf x ++ callsOver xs
 
 -- what a number and lent places tell of an outcome is what its answer says
 abbrev Tells : Call → CallOutcome → Type 0
@@ -109,46 +120,122 @@ tells m w =
     (λ h number v k t held. (refl, refl))
     (λ h number sum v held. (refl, refl))
 
-module _ (m w : List ℕ) where
-  -- what a bench counts as accepted was accepted
-  accepted-same : (x : Made) → Meets m w x → acceptedIn x ≡ acceptedBy (callOf x) (callMeans m w (callOf x) .answer)
-  accepted-same (incremented address o) e = ap (λ (l : Left). pick (eqb (l .number) 0) 1 0) e ∙ tells m w (increment address) .0
-  accepted-same (flipped o) e = refl
-  accepted-same (asked number v held o values) e = refl
+-- what a bench's call does to a ledger: what the library's calls do
+record Goes (l : Ledger) (x : Made) : Type 0 where
+  memory : leftOf x .memory ≡ run l (callsOf x) .memory
+  state : leftOf x .state ≡ run l (callsOf x) .state
+  increments : run l (callsOf x) .increments ≡ l .increments + acceptedIn x
+  cleared : run l (callsOf x) .cleared ≡ l .cleared + clearedIn x
+  none : newIn x ≡ false → NoNew l (callsOf x)
 
-  -- what a bench takes for a new ask is one
-  new-same : (x : Made) → Meets m w x → newIn x ≡ isNew (callMeans m w (callOf x) .answer)
-  new-same (incremented address o) e = sym (tells m w (increment address) .1)
-  new-same (flipped o) e = sym (tells m w flip)
-  new-same (asked number v held o values) e =
-      ap (λ (y : Left × AskValues). eqb (y .0 .number) 0 && eqb (y .1 .again) 0) e ∙ tells m w (ask number v) held .0
+-- a run of increments
+fed-goes : (l : Ledger) (addresses : List ℕ) (held : Fed) (o : (ℕ × Fed) × Lent) → Meets (l .memory) (l .state) (fed addresses held o)
+    → Goes l (fed addresses held o)
+unfolding toldAs
+fed-goes l addresses held o =
+    increments-elim (l .memory) (l .state) addresses (λ x. o ≡ toldWith x held → Goes l (fed addresses held o))
+    (λ h q. ran (feed-run addresses 0 l h) q)
+    (λ n z q. subst (λ y. Goes l (fed addresses held y)) (sym q) (refused n z))
+  where
+    refused : (n : ℕ) → 0 < n → Goes l (fed addresses held ((n, held), lent (l .memory) (l .state)))
+    refused n z =
+        let some = ne-eqb n 0 (λ e. omega arith) in
+        record {
+          memory = rw some;
+          state = rw some;
+          increments = rw some (sym (add-zero (l .increments)));
+          cleared = rw some (sym (add-zero (l .cleared)));
+          none = λ e. rw some tt;
+        }
 
-  -- what a bench counts as cleared was cleared
-  cleared-same : (x : Made) → Meets m w x → clearedIn x ≡ clearedBy (callOf x) (callMeans m w (callOf x) .answer)
-  cleared-same (incremented address o) e = refl
-  cleared-same (flipped o) e = refl
-  cleared-same (asked number v held o values) e =
-      ap (λ (y : Left × AskValues). pick (eqb (y .0 .number) 0 && eqb (y .1 .again) 0) (pick (v .clear) (y .1 .sum) 0) 0) e
-      ∙ ap (λ (b : Bool). pick b (pick (v .clear) (toldAsk (askMeans m w number v .answer) held .sum) 0) 0) (tells m w (ask number v) held .0)
-      ∙ tells m w (ask number v) held .1
+    ran : FedRun 0 l addresses (feedOf 0 (l .memory) (pageIn (l .state)) addresses)
+        → o ≡ toldWith (feeding (l .state) (feedOf 0 (l .memory) (pageIn (l .state)) addresses)) held → Goes l (fed addresses held o)
+    ran r q =
+        let said : Fed = record { count = r .fed; ended = r .ended } in
+        let answer : feedOf 0 (l .memory) (pageIn (l .state)) addresses .answer ≡ accepted said
+        = r .answer ∙ ap (λ (k : ℕ). accepted (record { count = k; ended = r .ended })) (zero-add (r .fed)) in
+        let left : Lent = lent (feedOf 0 (l .memory) (pageIn (l .state)) addresses .leaves) (l .state) in
+        let whole : o ≡ ((0, said), left) = q ∙ ap (λ (p : Paper Fed). (told p held, left)) answer in
+        let is : Goes l (fed addresses held ((0, said), left)) =
+        record {
+          memory = ap (λ (y : Ledger). y .memory) (sym (r .same));
+          state = ap (λ (y : Ledger). y .state) (sym (r .same));
+          increments = ap (λ (y : Ledger). y .increments) (r .same);
+          cleared = ap (λ (y : Ledger). y .cleared) (r .same) ∙ sym (add-zero (l .cleared));
+          none = λ e. run-old l (take (r .fed) addresses);
+        } in
+        subst (λ y. Goes l (fed addresses held y)) (sym whole) is
 
-  -- one call: what is held and what it cleared is what was held and what it accepted
-  made-conserves : (x : Made) → Meets m w x → total (leftOf x .memory) + clearedIn x ≡ total m + acceptedIn x
-  made-conserves x e =
-      let l : total (leftOf x .memory) ≡ total (callMeans m w (callOf x) .leaves .memory) = ap (λ (y : Left). total (y .memory)) (meets-left m w x e) in
-      let k : total (callMeans m w (callOf x) .leaves .memory) + clearedBy (callOf x) (callMeans m w (callOf x) .answer)
-      ≡ total m + acceptedBy (callOf x) (callMeans m w (callOf x) .answer) = call-conserves m w (callOf x) in
-      omega (arith, l, k, accepted-same x e, cleared-same x e)
+-- every call
+goes : (l : Ledger) (x : Made) → Meets (l .memory) (l .state) x → Goes l x
+goes l (incremented address o) e =
+    let t = tells (l .memory) (l .state) (increment address) in
+    record {
+      memory = ap (λ (y : Left). y .memory) e;
+      state = ap (λ (y : Left). y .state) e;
+      increments = ap (λ (k : ℕ). l .increments + k) (sym (ap (λ (y : Left). pick (eqb (y .number) 0) 1 0) e ∙ t .0));
+      cleared = refl;
+      none = λ n. (t .1, tt);
+    }
+goes l (fed addresses held o) e = fed-goes l addresses held o e
+goes l (flipped o) e =
+    record {
+      memory = ap (λ (y : Left). y .memory) e;
+      state = ap (λ (y : Left). y .state) e;
+      increments = refl;
+      cleared = refl;
+      none = λ n. (tells (l .memory) (l .state) flip, tt);
+    }
+goes l (asked number v held o values) e =
+    let t = tells (l .memory) (l .state) (ask number v) held in
+    let told = toldAsk (askMeans (l .memory) (l .state) number v .answer) held in
+    let new-same : eqb (o .number) 0 && eqb (values .again) 0 ≡ isNew (askMeans (l .memory) (l .state) number v .answer)
+    = ap (λ (y : Left × AskValues). eqb (y .0 .number) 0 && eqb (y .1 .again) 0) e ∙ t .0 in
+    record {
+      memory = ap (λ (y : Left × AskValues). y .0 .memory) e;
+      state = ap (λ (y : Left × AskValues). y .0 .state) e;
+      increments = refl;
+      cleared =
+          ap (λ (k : ℕ). l .cleared + k)
+          (sym
+          (ap (λ (y : Left × AskValues). pick (eqb (y .0 .number) 0 && eqb (y .1 .again) 0) (pick (v .clear) (y .1 .sum) 0) 0) e
+          ∙ ap (λ (b : Bool). pick b (pick (v .clear) (told .sum) 0) 0) (t .0)
+          ∙ t .1));
+      none = λ n. (sym new-same ∙ n, tt);
+    }
 
--- a whole session
-session-balanced : (o : Left) (xs : List Made) → Session o xs
-    → total (lastLeft o xs .memory) + sumOver clearedIn xs ≡ total (o .memory) + sumOver acceptedIn xs
-session-balanced o [] s = refl
-session-balanced o (x ∷ xs) s =
-    let one : total (leftOf x .memory) + clearedIn x ≡ total (o .memory) + acceptedIn x = made-conserves (o .memory) (o .state) x (s .0) in
-    let rest : total (lastLeft (leftOf x) xs .memory) + sumOver clearedIn xs ≡ total (leftOf x .memory) + sumOver acceptedIn xs
-    = session-balanced (leftOf x) xs (s .1) in
-    omega (arith, one, rest)
+-- lent memory and state are a ledger's
+abbrev Same : Left → Ledger → Type 0
+Same o l = (o .memory ≡ l .memory) × (o .state ≡ l .state)
+
+-- a call on lent memory and state that are a ledger's
+goes-same : (o : Left) (l : Ledger) (x : Made) → Same o l → Meets (o .memory) (o .state) x → Goes l x
+goes-same o l x s e = goes l x (subst (λ (m : List ℕ). Meets m (l .state) x) (s .0) (subst (λ (w : List ℕ). Meets (o .memory) w x) (s .1) e))
+
+-- what a session does to a ledger
+record Follows (o : Left) (l : Ledger) (xs : List Made) : Type 0 where
+  same : Same (lastLeft o xs) (run l (callsOver xs))
+  increments : run l (callsOver xs) .increments ≡ l .increments + sumOver acceptedIn xs
+  cleared : run l (callsOver xs) .cleared ≡ l .cleared + sumOver clearedIn xs
+  none : NoneNew xs → NoNew l (callsOver xs)
+
+-- none new in two sequences, one after the other
+none-append : (l : Ledger) (cs ds : List Call) → NoNew l cs → NoNew (run l cs) ds → NoNew l (cs ++ ds)
+none-append l [] ds n k = k
+none-append l (c ∷ cs) ds n k = (n .0, none-append (step l c) cs ds (n .1) k)
+
+follows : (o : Left) (l : Ledger) (xs : List Made) → Same o l → Session o xs → Follows o l xs
+follows o l [] s e = record { same = s; increments = sym (add-zero (l .increments)); cleared = sym (add-zero (l .cleared)); none = λ n. tt }
+follows o l (x ∷ xs) s e =
+    let g = goes-same o l x s (e .0) in
+    let r = follows (leftOf x) (run l (callsOf x)) xs (g .memory, g .state) (e .1) in
+    let joined : run l (callsOf x ++ callsOver xs) ≡ run (run l (callsOf x)) (callsOver xs) = run-append l (callsOf x) (callsOver xs) in
+    record {
+      same = subst (Same (lastLeft (leftOf x) xs)) (sym joined) (r .same);
+      increments = ap (λ (y : Ledger). y .increments) joined ∙ omega (arith, r .increments, g .increments);
+      cleared = ap (λ (y : Ledger). y .cleared) joined ∙ omega (arith, r .cleared, g .cleared);
+      none = λ n. none-append l (callsOf x) (callsOver xs) (g .none (n .0)) (r .none (n .1));
+    }
 
 -- an opening that answers 0 was accepted
 open-accepted : (m w : List ℕ) (o : Left) → HistogramOpenPromise m w o → o .number ≡ 0 → openMeans m w .answer ≡ accepted done
@@ -158,38 +245,16 @@ open-accepted m w o e z =
     (λ n some q. absurd (let k : o .number ≡ n = ap (λ (x : Left). x .number) q in omega arith))
     e
 
--- demand 3 of the exported calls: from an opening that answered 0, after every session, refused calls among them, the counts in lent memory plus the
--- sums that new clearing asks handed out equal the increments that answered 0
+-- demand 3 of the exported calls: from an opening that answered 0, after every session, refused calls and runs of increments among them, the counts in
+-- lent memory plus the sums that new clearing asks handed out equal the increments that were accepted
 pub session-conserves : (m w : List ℕ) (o : Left) → HistogramOpenPromise m w o → o .number ≡ 0 → (xs : List Made) → Session o xs
     → total (lastLeft o xs .memory) + sumOver clearedIn xs ≡ sumOver acceptedIn xs
 session-conserves m w o e z xs s =
-    let opened : total (openMeans m w .leaves .memory) + 0 ≡ 0 = opened-balanced m w (open-accepted m w o e z) in
-    let lent : total (o .memory) ≡ total (openMeans m w .leaves .memory) = ap (λ (y : Left). total (y .memory)) e in
-    omega (arith, opened, lent, session-balanced o xs s)
-
--- lent memory and state are a ledger's
-abbrev Same : Left → Ledger → Type 0
-Same o l = (o .memory ≡ l .memory) × (o .state ≡ l .state)
-
--- one call
-step-same : (o : Left) (l : Ledger) (x : Made) → Same o l → Meets (o .memory) (o .state) x → Same (leftOf x) (step l (callOf x))
-step-same o l x s e =
-    let q : leftOf x ≡ leftBy (answered l (callOf x))
-    = meets-left (o .memory) (o .state) x e ∙ ap₂ (λ (m w : List ℕ). leftBy (callMeans m w (callOf x))) (s .0) (s .1) in
-    (ap (λ (y : Left). y .memory) q, ap (λ (y : Left). y .state) q)
-
--- a session goes with the library's run
-session-same : (o : Left) (l : Ledger) (xs : List Made) → Same o l → Session o xs → Same (lastLeft o xs) (run l (map callOf xs))
-session-same o l [] s e = s
-session-same o l (x ∷ xs) s e = session-same (leftOf x) (step l (callOf x)) xs (step-same o l x s (e .0)) (e .1)
-
--- and where no call of it was a new ask, none of the run is
-session-none : (o : Left) (l : Ledger) (xs : List Made) → Same o l → Session o xs → NoneNew xs → NoNew l (map callOf xs)
-session-none o l [] s e n = tt
-session-none o l (x ∷ xs) s e n = (
-  ap₂ (λ (m w : List ℕ). isNew (callMeans m w (callOf x) .answer)) (sym (s .0)) (sym (s .1)) ∙ sym (new-same (o .memory) (o .state) x (e .0)) ∙ n .0,
-  session-none (leftOf x) (step l (callOf x)) xs (step-same o l x s (e .0)) (e .1) (n .1),
-)
+    let r = follows o (opening m w) xs (ap (λ (y : Left). y .memory) e, ap (λ (y : Left). y .state) e) s in
+    let balanced : Balanced (run (opening m w) (callsOver xs))
+    = run-balanced (opening m w) (callsOver xs) (opened-balanced m w (open-accepted m w o e z)) in
+    let held : total (lastLeft o xs .memory) ≡ total (run (opening m w) (callsOver xs) .memory) = ap total (r .same .0) in
+    omega (arith, balanced, held, r .increments, r .cleared)
 
 -- the answer of a new ask, from its lent sum
 new-answer : (p : Paper Value) (held : AskValues) → isNew p ≡ true → p ≡ accepted (new (toldAsk p held .sum))
@@ -216,17 +281,16 @@ session-repeats o number v held p values later e n s none held′ q values′ e�
     let l : Ledger = record { memory = o .memory; state = o .state; cleared = 0; increments = 0 } in
     let a : Paper Value = askMeans (o .memory) (o .state) number v .answer in
     let sums : values .sum ≡ toldAsk a held .sum = ap (λ (y : Left × AskValues). y .1 .sum) e in
-    let was : a ≡ accepted (new (values .sum))
-    = new-answer a held (sym (new-same (o .memory) (o .state) (asked number v held p values) e) ∙ n) ∙ ap (λ (k : ℕ). accepted (new k)) (sym sums) in
-    let first : Same p (step l (ask number v)) = step-same o l (asked number v held p values) (refl, refl) e in
-    let r : Ledger = run (step l (ask number v)) (map callOf later) in
-    let same : Same (lastLeft p later) r = session-same p (step l (ask number v)) later first s in
-    let kept : askMeans (r .memory) (r .state) number v ≡ accept (again (values .sum)) (lent (r .memory) (r .state))
-    = repeat l number (values .sum) v (map callOf later) was (session-none p (step l (ask number v)) later first s none) in
+    let is-new : eqb (p .number) 0 && eqb (values .again) 0 ≡ isNew a
+    = ap (λ (y : Left × AskValues). eqb (y .0 .number) 0 && eqb (y .1 .again) 0) e ∙ tells (o .memory) (o .state) (ask number v) held .0 in
+    let was : a ≡ accepted (new (values .sum)) = new-answer a held (sym is-new ∙ n) ∙ ap (λ (k : ℕ). accepted (new k)) (sym sums) in
+    let first = goes l (asked number v held p values) e in
+    let r = follows p (step l (ask number v)) later (first .memory, first .state) s in
+    let kept = repeat l number (values .sum) v (callsOver later) was (r .none none) in
     let z : askMeans (lastLeft p later .memory) (lastLeft p later .state) number v
     ≡ accept (again (values .sum)) (lent (lastLeft p later .memory) (lastLeft p later .state))
-    = ap₂ (λ (m w : List ℕ). askMeans m w number v) (same .0) (same .1) ∙ kept
-    ∙ ap₂ (λ (m w : List ℕ). accept (again (values .sum)) (lent m w)) (sym (same .0)) (sym (same .1)) in
+    = ap₂ (λ (m w : List ℕ). askMeans m w number v) (r .same .0) (r .same .1) ∙ kept
+    ∙ ap₂ (λ (m w : List ℕ). accept (again (values .sum)) (lent m w)) (sym (r .same .0)) (sym (r .same .1)) in
     let left : q ≡ leftBy (accept (again (values .sum)) (lent (lastLeft p later .memory) (lastLeft p later .state)))
     = ap (λ (y : Left × AskValues). y .0) e′ ∙ ap leftBy z in
     record {
