@@ -138,7 +138,7 @@ def iterators():
     for value in said:
         at = plavotesk.code_pack(buffer, at, value, 0)
     for given in (buffer, bytes(buffer), memoryview(buffer)):
-        assert list(plavotesk.codes(given, 6, 0, 3)) == [0, 1, 15, 16, 99, 4991], list(plavotesk.codes(given, 6, 0, 3))
+        assert list(plavotesk.codes(given, 6, 0, 3)) == [0, 1, 15, 16, 99, 5023], list(plavotesk.codes(given, 6, 0, 3))
         assert [reading.low <= value <= reading.high for value, reading in zip(said, plavotesk.readings(given, 6, 0, 3))] == [True] * 6
         assert [rate.seconds for rate in plavotesk.rates(given, 6, 0, 1, 3)] == [5.0] * 6
     refused(9, lambda: list(plavotesk.codes(b'\xff', 1, 0)))

@@ -37,7 +37,9 @@ fn one(tally: &mut Tally, random: &mut Random, words: usize) {
         stored::asked(&mut state, &Kept::of(last, window, random.next() >> random.below(64)));
     }
     let mut script = Script::of(&memory, &state, (last, window));
-    match random.below(6) {
+    match random.below(9) {
+        6 | 7 => script.increments(tally, random),
+        8 => script.next(tally, random),
         0 | 1 => script.increment(tally, random.below(n + 1) as u32),
         2 => script.flip(tally),
         _ => {

@@ -37,6 +37,46 @@ fn increment_plain(board: &mut Board, address: u32) -> Result<(), u8> {
     histogram::increment(board.memory.part(), &state, address)
 }
 
+/// A run's number, and the two lent places, which held something before.
+fn increments(board: &mut Board, addresses: &[u32], held: u64) -> (u8, u64, u8) {
+    let (mut count, mut ended) = (held, held as u8);
+    let (memory, state) = (board.memory.part(), board.state.part());
+    let refused = unsafe {
+        raw::plv_histogram_increments(
+            memory.as_mut_ptr(),
+            memory.len(),
+            state.as_ptr(),
+            state.len(),
+            addresses.as_ptr(),
+            addresses.len(),
+            &mut count,
+            &mut ended,
+        )
+    };
+    (refused, count, ended)
+}
+
+fn increments_plain(board: &mut Board, addresses: &[u32], held: u64) -> (u8, u64, u8) {
+    let fed = stored::state(board.state.part()).and_then(|state| histogram::increments(board.memory.part(), &state, addresses));
+    match fed {
+        Ok((count, ended)) => (0, count, ended),
+        Err(refused) => (refused, held, held as u8),
+    }
+}
+
+fn next(board: &mut Board, held: u16) -> (u8, u16) {
+    let mut number = held;
+    let state = board.state.part();
+    (unsafe { raw::plv_histogram_next(state.as_ptr(), state.len(), &mut number) }, number)
+}
+
+fn next_plain(board: &mut Board, held: u16) -> (u8, u16) {
+    match stored::state(board.state.part()).and_then(|state| histogram::next(&state)) {
+        Ok(number) => (0, number),
+        Err(refused) => (refused, held),
+    }
+}
+
 fn flip(board: &mut Board) -> u8 {
     let (memory, state) = (board.memory.part(), board.state.part());
     unsafe { raw::plv_histogram_flip(memory.as_ptr(), memory.len(), state.as_mut_ptr(), state.len()) }
@@ -174,6 +214,26 @@ impl Script {
         tally.compare(|| format!("increment {address} of {before:?}"), (answers.0, &self.proved), (answers.1, &self.plain));
     }
 
+    /// A run of increments, most of them at addresses of the page.
+    pub fn increments(&mut self, tally: &mut Tally, random: &mut Random) {
+        let before = self.plain.clone();
+        let n = self.words / 2;
+        let addresses: Vec<u32> = (0..random.below(12)).map(|_| random.below((n + random.below(9) / 8).max(1)) as u32).collect();
+        let held = random.next();
+        let (got, wanted) = (increments(&mut self.proved, &addresses, held), increments_plain(&mut self.plain, &addresses, held));
+        tally.answered(if got.0 == 0 { "increments ended" } else { "increments" }, if got.0 == 0 { got.2 } else { got.0 });
+        tally.compare(|| format!("increments {addresses:?} of {before:?}"), (got, &self.proved), (wanted, &self.plain));
+    }
+
+    /// The number of the next ask.
+    pub fn next(&mut self, tally: &mut Tally, random: &mut Random) {
+        let before = self.plain.clone();
+        let held = random.next() as u16;
+        let (got, wanted) = (next(&mut self.proved, held), next_plain(&mut self.plain, held));
+        tally.answered("next", got.0);
+        tally.compare(|| format!("next of {before:?}"), (got, &self.proved), (wanted, &self.plain));
+    }
+
     pub fn flip(&mut self, tally: &mut Tally) {
         let before = self.plain.clone();
         let answers = (flip(&mut self.proved), number(flip_plain(&mut self.plain)));
@@ -228,7 +288,9 @@ fn play(tally: &mut Tally, random: &mut Random, calls: u64) {
         if forging && random.below(25) == 0 {
             script.forge(random);
         }
-        match random.below(10) {
+        match random.below(12) {
+            10 => script.increments(tally, random),
+            11 => script.next(tally, random),
             0..=4 => script.increment(tally, random.below(words / 2 + 1) as u32),
             5 => script.flip(tally),
             _ => script.ask(tally, random),

@@ -76,6 +76,26 @@ pub fn increment(memory: &mut [u32], state: &State, address: u32) -> Result<(), 
     Ok(())
 }
 
+/// One increment after the other, up to the first that is refused: how many, and by which number it ended.
+pub fn increments(memory: &mut [u32], state: &State, addresses: &[u32]) -> Result<(u64, u8), u8> {
+    fits(memory, state)?;
+    for (count, &address) in addresses.iter().enumerate() {
+        if let Err(number) = increment(memory, state, address) {
+            return Ok((count as u64, number));
+        }
+    }
+    Ok((addresses.len() as u64, 0))
+}
+
+/// The number of the next new ask; none follows a number that no ask can bear.
+pub fn next(state: &State) -> Result<u16, u8> {
+    match state.kept.map(|kept| kept.number) {
+        None => Ok(1),
+        Some(number @ 0..=65_535) => Ok((number as u16).wrapping_add(1)),
+        Some(_) => Err(13),
+    }
+}
+
 pub fn flip(memory: &[u32], state: &mut State) -> Result<(), u8> {
     fits(memory, state)?;
     state.upper_active = !state.upper_active;
