@@ -6,26 +6,30 @@ use Rattle.histogram.proofs.Calls.{takes, keeps}
 use Rattle.histogram.proofs.new_ask.Statement.{statement}
 use Rattle.histogram.proofs.new_ask.Tie as tie
 
+-- the call, where its window was taken or refused
+abbrev called : tie.After-take → tie.Start
+called c = c .before .before .before .before .before .before
+
 returns : tie.Need-returns
 returns c =
     let at-keep = c .before .before in
     let at-sum = at-keep .before .before .before in
     let at-take = at-sum .before .before .before .before in
-    let a = at-take .before .before .before .before .before .before .args in
+    let a = called at-take .args in
     takes (a .memory .now) (a .state .now) (a .number) (a .window) (at-take .before .idle-page .ensures) (at-take .take .ensures)
     (at-sum .taken .given .1) (keeps (a .memory .now) (a .state .now) (a .number) (a .window) (at-keep .keep .ensures .0) (at-keep .keep .ensures .1))
 
 returns-2 : tie.Need-returns-2
 returns-2 c =
     let at-take = c .before .before .before .before in
-    let a = at-take .before .before .before .before .before .before .args in
+    let a = called at-take .args in
     takes (a .memory .now) (a .state .now) (a .number) (a .window) (at-take .before .idle-page .ensures) (at-take .take .ensures)
     (c .enum-told .given .1) refl
 
 returns-3 : tie.Need-returns-3
 returns-3 c =
     let at-take = c .before .before .before .before in
-    let a = at-take .before .before .before .before .before .before .args in
+    let a = called at-take .args in
     takes (a .memory .now) (a .state .now) (a .number) (a .window) (at-take .before .idle-page .ensures) (at-take .take .ensures)
     (c .enum-told2 .given .1) refl
 
