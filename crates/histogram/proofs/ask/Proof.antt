@@ -40,7 +40,7 @@ returns-2 : tie.Need-returns-2
 returns-2 c =
     let at-new = c .before .before .before .before in
     let at-arm = at-new .before .before .before in
-    record { outcome = says (at-arm .before .before) (at-arm .enum-told .given .1) (at-new .new-ask .ensures) }
+    record { outcome = says (at-arm .before .before) (at-arm .enum-told .given .1) (at-new .new-ask .ensures .outcome) }
 
 returns-3 : tie.Need-returns-3
 returns-3 c =
