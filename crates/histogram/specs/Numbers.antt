@@ -49,9 +49,10 @@ new-number (Last k v sum) number w =
     (λ g e. eqb-true _ _ g)
     (λ g e. absurd (let z : _≡_ {A = ℕ} 0 1 = cc in omega arith)))
 
--- a new ask, on any memory and state, bears the number whose turn it is
-pub new-bears : (m w : List ℕ) (number sum : ℕ) (v : Window) → askMeans m w number v .answer ≡ accepted (new sum) → number ≡ turnNumber (keptIn w)
-new-bears m w number sum v e = new-number (keptIn w) number v (is-new m w number sum v e .turn)
+-- a new ask, on any ledger, bears the number whose turn it is
+pub new-bears : (l : Ledger) (number sum : ℕ) (v : Window) → answered l (ask number v) .answer ≡ accepted (new sum)
+    → number ≡ turnNumber (keptIn (l .state))
+new-bears l number sum v e = new-number (keptIn (l .state)) number v (is-new l number sum v e .turn)
 
 module _ (m w : List ℕ) (o : openMeans m w .answer ≡ accepted done) where
   -- on an opened memory calls may go on
@@ -70,8 +71,7 @@ module _ (m w : List ℕ) (o : openMeans m w .answer ≡ accepted done) where
   pub first-number : (cs : List Call) → NoNew (opening m w) cs → (number sum : ℕ) (v : Window)
       → answered (run (opening m w) cs) (ask number v) .answer ≡ accepted (new sum) → number ≡ 1
   first-number cs n number sum v e =
-      new-bears (run (opening m w) cs .memory) (run (opening m w) cs .state) number sum v e
-      ∙ ap turnNumber (run-stays (opening m w) cs n .1 ∙ opened-keeps)
+      new-bears (run (opening m w) cs) number sum v e ∙ ap turnNumber (run-stays (opening m w) cs n .1 ∙ opened-keeps)
 
   -- after opening, and whatever calls with no new ask among them, every number but 1 is out of turn
   pub out-of-turn : (cs : List Call) → NoNew (opening m w) cs → (number : ℕ) (v : Window) → (number ≡ 1 → ⊥)
@@ -91,5 +91,4 @@ pub next-number : (l : Ledger) (number sum : ℕ) (v : Window) (later : List Cal
     → (number′ sum′ : ℕ) (v′ : Window) → answered (run (step l (ask number v)) later) (ask number′ v′) .answer ≡ accepted (new sum′)
     → number′ ≡ nextOf number
 next-number l number sum v later e n number′ sum′ v′ e′ =
-    new-bears (run (step l (ask number v)) later .memory) (run (step l (ask number v)) later .state) number′ sum′ v′ e′
-    ∙ ap turnNumber (stays-kept l number sum v later e n .kept)
+    new-bears (run (step l (ask number v)) later) number′ sum′ v′ e′ ∙ ap turnNumber (stays-kept l number sum v later e n .kept)

@@ -14,9 +14,10 @@ use Rattle.ground.specs.Questions.{both-hold}
 use Rattle.pages.specs.Meaning.{lastOf, putOf, sizedOf, walkTaken, windowWalk, wordOf}
 use Rattle.pages.specs.Outcomes.{count-elim, take-elim}
 use Rattle.pages.specs.declared.Window.{Window}
-use Rattle.histogram.specs.Meaning.{Admits, CallOutcome, admission, admitted, again, askMeans, counting, done, fittingOf, flipMeans, incrementMeans}
+use Rattle.histogram.specs.Meaning.{Admits, CallOutcome, admission, admitted, again, askMeans, counting, done, flipMeans, incrementMeans}
 use Rattle.histogram.specs.Meaning.{lent, newMeans, openMeans, roomy, taking, turnMeans}
 use Rattle.histogram.specs.Runs.{Call, increment, flip, ask, callMeans}
+use Rattle.histogram.specs.States.{admission-elim}
 use Rattle.histogram.specs.Turns.{turnOf}
 use Rattle.histogram.specs.Words.{flipIn, freshIn, keptIn, pageIn}
 use Rattle.histogram.specs.declared.turn.Turn.{Turn}
@@ -51,12 +52,8 @@ module _ (m w : List ℕ) where
   -- admission: what comes after it, or a refusal that leaves memory and state
   pub admitted-elim : (P : CallOutcome → Type 0) (o : CallOutcome) → (Admits m w → P o) → ((n : ℕ) → 0 < n → P (refuse n (lent m w)))
       → P (admitted m w o)
-  unfolding admission
   admitted-elim P o p q =
-      pick-elim (λ (a : Paper (Unit {0})). admission m w ≡ a → P (onwardTo (λ x. o) (lent m w) a)) (fittingOf (length m) w) _ _
-      (λ h. p)
-      (λ h e. q 13 (omega arith))
-      refl
+      admission-elim (λ (a : Paper (Unit {0})). admission m w ≡ a → P (onwardTo (λ x. o) (lent m w) a)) m w (λ h. p) (λ n z e. q n z) refl
 
 module _ (P : Call → CallOutcome → Type 0) (m w : List ℕ) (refuses : (c : Call) (n : ℕ) → 0 < n → P c (refuse n (lent m w))) where
   -- an ask of any turn
