@@ -3,9 +3,8 @@
 use mathlib.Core.Path.{_≡_, refl, sym, ap, _∙_, subst}
 use Prim.Native.Nat.{ℕ, _^_, _<_}
 use lib.Dec.{ltb}
-use native.Mathlib.Omega.{arith}
 use Rattle.ground.specs.Choice.{pick-elim}
-use Rattle.ground.specs.Paper.{Paper, accepted, refused, one-answer}
+use Rattle.ground.specs.Paper.{Paper, accepted, refused, refused-not, accepted-same, one-answer}
 use Rattle.format.specs.declared.Code16.{Code16}
 use Rattle.format.specs.declared.Code8.{Code8}
 use Rattle.format.specs.declared.Code24.{Code24}
@@ -31,7 +30,7 @@ float8-again {code} {count} {r} h p q =
 itself : {n x : ℕ} → accepted x ≡ int24Means n → x ≡ n
 itself {n} {x} =
     pick-elim (λ (p : Paper ℕ). accepted x ≡ p → x ≡ n) (ltb 16777215 n) (refused 12) (accepted n)
-    (λ _ e. let z : _≡_ {A = ℕ} 0 1 = cc in absurd (omega arith)) (λ _ e. cc)
+    (λ _ e. absurd (refused-not (sym e))) (λ _ e. accepted-same e)
 
 -- the count of a count's 24-bit integer is that count
 pub int24-again : {count code : ℕ} {r : Count24} → Int24CodePromise count (Code24.Code code) → Int24CountPromise code r → r ≡ Count24.Count count

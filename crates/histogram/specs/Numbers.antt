@@ -1,5 +1,6 @@
 -- The numbers of asks: "A new ask bears the number after the last accepted, 1 after opening, 0 after 65535".
 -- Assumes nothing.
+use mathlib.Core.Bool.{Bool, true, false}
 use mathlib.Core.Path.{_≡_, refl, ap, _∙_}
 use mathlib.Core.List.{List}
 use Prim.Native.Nat.{ℕ, _+_}
@@ -9,6 +10,7 @@ use lib.ListN.{length, length-replicate, replicate}
 use borrow.Author.Tests.{eqb-true, ne-eqb}
 use Rattle.ground.specs.Choice.{pick-elim}
 use Rattle.ground.specs.Paper.{accepted, refused}
+use Rattle.ground.specs.Questions.{both-ways}
 use Rattle.pages.specs.declared.Window.{Window}
 use Rattle.histogram.specs.Meaning.{Admits, CallOutcome, admission, askMeans, done, new, openMeans}
 use Rattle.histogram.specs.Outcomes.{is-opened}
@@ -19,7 +21,7 @@ use Rattle.histogram.specs.Stays.{run-stays}
 use Rattle.histogram.specs.Turns.{nextOf, sameOf, turnOf}
 use Rattle.histogram.specs.Words.{Kept, Last, Nothing, freshIn, keptIn}
 use Rattle.histogram.specs.declared.turn.Turn.{Turn}
-use Rattle.histogram.specs.declared.turn.Turn.the-variants.{NewAsk}
+use Rattle.histogram.specs.declared.turn.Turn.the-variants.{NewAsk, LastAsk, OtherWindow, OutOfTurn}
 
 -- the number that a new ask must bear, beside what is kept: "the number after the last accepted, 1 after opening"
 abbrev pub turnNumber : Kept → ℕ
@@ -34,20 +36,31 @@ after-65535 = refl
 pub after-others : (n : ℕ) → (n ≡ 65535 → ⊥) → nextOf n ≡ n + 1
 after-others n h = rw (ne-eqb n 65535 h)
 
+-- whether a turn is a new ask's
+abbrev newTurn : Turn → Bool
+newTurn NewAsk = true
+newTurn (LastAsk sum) = false
+newTurn OtherWindow = false
+newTurn OutOfTurn = false
+
+-- a turn that is none is not
+not-new : {t : Turn} → newTurn t ≡ false → t ≡ NewAsk → ⊥
+not-new f e = both-ways (ap newTurn e) f
+
 -- a turn that is a new ask's bears the number whose turn it is
 pub new-number : (k : Kept) (number : ℕ) (w : Window) → turnOf k number w ≡ NewAsk → number ≡ turnNumber k
 new-number Nothing number w =
     pick-elim (λ (t : Turn). t ≡ NewAsk → number ≡ 1) (eqb number 1) _ _
     (λ h e. eqb-true _ _ h)
-    (λ h e. absurd (let z : _≡_ {A = ℕ} 0 1 = cc in omega arith))
+    (λ h e. absurd (not-new refl e))
 new-number (Last k v sum) number w =
     pick-elim (λ (t : Turn). t ≡ NewAsk → number ≡ nextOf k) (eqb number k) _ _
     (λ h. pick-elim (λ (t : Turn). t ≡ NewAsk → number ≡ nextOf k) (sameOf v w) _ _
-    (λ g e. absurd (let z : _≡_ {A = ℕ} 0 1 = cc in omega arith))
-    (λ g e. absurd (let z : _≡_ {A = ℕ} 0 1 = cc in omega arith)))
+    (λ g e. absurd (not-new refl e))
+    (λ g e. absurd (not-new refl e)))
     (λ h. pick-elim (λ (t : Turn). t ≡ NewAsk → number ≡ nextOf k) (eqb number (nextOf k)) _ _
     (λ g e. eqb-true _ _ g)
-    (λ g e. absurd (let z : _≡_ {A = ℕ} 0 1 = cc in omega arith)))
+    (λ g e. absurd (not-new refl e)))
 
 -- a new ask, on any ledger, bears the number whose turn it is
 pub new-bears : (l : Ledger) (number sum : ℕ) (v : Window) → answered l (ask number v) .answer ≡ accepted (new sum)
