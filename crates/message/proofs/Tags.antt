@@ -16,13 +16,16 @@ eight (suc (suc (suc t))) a b c = refl
 
 module _ (address tag value : ℕ) where
   pub far : 0x3FFF < address → false ≡ sayable address tag value
+  unfolding sayable
   far h = rw (lt-leb address 0x3FFF h)
 
   -- of a known tag, the value's bits settle it
   pub near : {known : ℕ} → address ≤ 0x3FFF → tag ≡ known → leb known 3 ≡ true → ltb value (256 ^ dataSize known) ≡ sayable address tag value
+  unfolding sayable
   near h is t = rw (is, le-leb address 0x3FFF h, t)
 
   pub no-tag : address ≤ 0x3FFF → 3 < tag → false ≡ sayable address tag value
+  unfolding sayable
   no-tag h g = rw (le-leb address 0x3FFF h, lt-leb tag 3 g)
 
   -- no bit of a 64-bit value is beyond eight bytes

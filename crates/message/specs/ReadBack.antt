@@ -8,13 +8,12 @@ use native.Mathlib.Omega.{arith}
 use lib.Dec.{ltb}
 use lib.ListN.{length, take, drop}
 use lib.Seq.{take-at}
-use Rattle.ground.specs.Questions.{answered-yes}
-use Rattle.ground.specs.Choice.{pick-elim}
-use Rattle.ground.specs.Paper.{accepted, accepted-same, refused-not}
-use Rattle.ground.specs.Outcome.{Outcome, accept, refuse}
+use Rattle.ground.specs.Paper.{accepted}
+use Rattle.ground.specs.Outcome.{accept}
 use Rattle.ground.specs.Words.{number, bytesOf, wordAt, number-bytesOf, length-bytesOf}
 use Rattle.crc.specs.Meaning.{checksumOf, sealedOf, sealedAt}
 use Rattle.crc.specs.Sealing.{length-sealed, sealed-front, sealed-stands, sealed-lies}
+use Rattle.crc.specs.Writing.{passed-two}
 use Rattle.message.specs.Laws.{Within, within, read-so}
 use Rattle.message.specs.Meaning.{dataSize, tagWord, covered, messageOf, tagAt, addressAt, sizeAt, readMeans, sayable, writeMeans}
 
@@ -82,18 +81,6 @@ pub record Accepted (buffer : List ℕ) (address tag value n : ℕ) (after : Lis
 pub write-accepted : (buffer : List ℕ) (address tag value : ℕ) {n : ℕ} {after : List ℕ} → accept n after ≡ writeMeans buffer address tag value
     → Accepted buffer address tag value n after
 unfolding writeMeans
-write-accepted buffer address tag value {n} {after} =
-    pick-elim Says (not (sayable address tag value)) _ _ (λ outside. refuses)
-    (λ said. pick-elim Says (ltb (length buffer) (dataSize tag + 6)) _ _ (λ short. refuses)
-    (λ room e.
-    record {
-      inside = within address tag value (answered-yes refl said);
-      count = accepted-same (ap (λ (o : Outcome ℕ (List ℕ)). o .answer) e);
-      leaves = ap (λ (o : Outcome ℕ (List ℕ)). o .leaves) e;
-    }))
-  where
-    Says : Outcome ℕ (List ℕ) → Type 0
-    Says o = accept n after ≡ o → Accepted buffer address tag value n after
-
-    refuses : {k : ℕ} → Says (refuse k buffer)
-    refuses e = absurd (refused-not (sym (ap (λ (o : Outcome ℕ (List ℕ)). o .answer) e)))
+write-accepted buffer address tag value e =
+    let passed = passed-two (not (sayable address tag value)) (ltb (length buffer) (dataSize tag + 6)) 7 3 buffer e in
+    record { inside = within refl (passed .first); count = passed .value; leaves = passed .leaving }

@@ -10,12 +10,12 @@ use borrow.Author.Tests.{le-ltb, ltb-false}
 use lib.Dec.{ltb}
 use lib.ListN.{length, take, drop}
 use lib.Seq.{take-at}
-use Rattle.ground.specs.Choice.{pick-elim}
-use Rattle.ground.specs.Paper.{accepted, accepted-same, refused-not}
-use Rattle.ground.specs.Outcome.{Outcome, accept, refuse}
+use Rattle.ground.specs.Paper.{accepted}
+use Rattle.ground.specs.Outcome.{accept}
 use Rattle.ground.specs.Words.{bytesOf, wordAt, number-bytesOf}
 use Rattle.crc.specs.Meaning.{checksumOf, sealedOf, sealedAt}
 use Rattle.crc.specs.Sealing.{length-sealed, sealed-front, sealed-stands, sealed-lies}
+use Rattle.crc.specs.Writing.{passed-two}
 use Rattle.packet.specs.Meaning.{covered, packetOf, dataLength, stands, findFrom, findMeans, headerMeans, payloadMeans, writeMeans}
 use Rattle.packet.specs.Laws.{Standing, stands-so, find-here}
 
@@ -100,19 +100,11 @@ pub record Accepted (buffer : List ℕ) (apid : ℕ) (payload : List ℕ) (n : �
 pub write-accepted : (buffer : List ℕ) (apid : ℕ) (payload : List ℕ) {n : ℕ} {after : List ℕ} → accept n after ≡ writeMeans buffer apid payload
     → Accepted buffer apid payload n after
 unfolding writeMeans
-write-accepted buffer apid payload {n} {after} =
-    pick-elim Says (ltb 8187 (length payload)) _ _ (λ large. refuses)
-    (λ small. pick-elim Says (ltb (length buffer) (length payload + 10)) _ _ (λ short. refuses)
-    (λ room e.
+write-accepted buffer apid payload e =
+    let passed = passed-two (ltb 8187 (length payload)) (ltb (length buffer) (length payload + 10)) 2 3 buffer e in
     record {
-      small = ltb-false 8187 (length payload) small;
-      room = ltb-false (length buffer) (length payload + 10) room;
-      count = accepted-same (ap (λ (o : Outcome ℕ (List ℕ)). o .answer) e);
-      leaves = ap (λ (o : Outcome ℕ (List ℕ)). o .leaves) e;
-    }))
-  where
-    Says : Outcome ℕ (List ℕ) → Type 0
-    Says o = accept n after ≡ o → Accepted buffer apid payload n after
-
-    refuses : {k : ℕ} → Says (refuse k buffer)
-    refuses e = absurd (refused-not (sym (ap (λ (o : Outcome ℕ (List ℕ)). o .answer) e)))
+      small = ltb-false 8187 (length payload) (passed .first);
+      room = ltb-false (length buffer) (length payload + 10) (passed .second);
+      count = passed .value;
+      leaves = passed .leaving;
+    }
