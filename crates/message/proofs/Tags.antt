@@ -15,6 +15,7 @@ eight (suc (suc zero)) a b c = absurd (c refl)
 eight (suc (suc (suc t))) a b c = refl
 
 module _ (address tag value : ℕ) where
+  -- an address of more than 14 bits
   pub far : 0x3FFF < address → false ≡ sayable address tag value
   unfolding sayable
   far h = rw (lt-leb address 0x3FFF h)
@@ -24,6 +25,7 @@ module _ (address tag value : ℕ) where
   unfolding sayable
   near h is t = rw (is, le-leb address 0x3FFF h, t)
 
+  -- a tag of more than 2 bits
   pub no-tag : address ≤ 0x3FFF → 3 < tag → false ≡ sayable address tag value
   unfolding sayable
   no-tag h g = rw (le-leb address 0x3FFF h, lt-leb tag 3 g)

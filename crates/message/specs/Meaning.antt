@@ -38,10 +38,11 @@ messageOf address tag value = sealedOf (covered address tag value)
 abbrev pub marked : List ℕ → Bool
 marked bytes = eqb (getD bytes 0 0) 0x3C && eqb (getD bytes 1 0) 0x3D
 
--- the tag and the address of the message at the front
+-- the tag of the message at the front
 abbrev pub tagAt : List ℕ → ℕ
 tagAt bytes = wordAt bytes 2 / 2 ^ 14
 
+-- the address of the message at the front
 abbrev pub addressAt : List ℕ → ℕ
 addressAt bytes = wordAt bytes 2 % 2 ^ 14
 

@@ -17,10 +17,11 @@ use Rattle.crc.specs.Writing.{passed-two}
 use Rattle.message.specs.Laws.{Within, within, read-so}
 use Rattle.message.specs.Meaning.{dataSize, tagWord, covered, messageOf, tagAt, addressAt, sizeAt, readMeans, sayable, writeMeans}
 
--- what the checksum covers has four bytes more than the data, the whole message six
+-- what a message's checksum covers has four bytes more than the data
 pub covered-length : (address tag value : ℕ) → length (covered address tag value) ≡ dataSize tag + 4
 covered-length address tag value = omega (arith, length-bytesOf (dataSize tag) value)
 
+-- the whole message has six bytes more
 pub message-length : (address tag value : ℕ) → length (messageOf address tag value) ≡ dataSize tag + 6
 unfolding messageOf
 message-length address tag value = omega (arith, length-sealed (covered address tag value), covered-length address tag value)
@@ -30,16 +31,20 @@ abbrev pub written : ℕ → ℕ → ℕ → List ℕ → List ℕ
 written address tag value rest = messageOf address tag value ++ rest
 
 module _ (address tag value : ℕ) (rest : List ℕ) (w : Within address tag value) where
+  -- the word says tag and address
   word : wordAt (written address tag value rest) 2 ≡ tagWord address tag
   unfolding messageOf sealedOf
   word = number-bytesOf 2 (tagWord address tag) (omega (arith, w))
 
+  -- the tag in it
   tag-back : tagAt (written address tag value rest) ≡ tag
   tag-back = let high : tagWord address tag / 2 ^ 14 ≡ tag = omega (arith, w) in ap (λ (w : ℕ). w / 2 ^ 14) word ∙ high
 
+  -- the address in it
   address-back : addressAt (written address tag value rest) ≡ address
   address-back = let low : tagWord address tag % 2 ^ 14 ≡ address = omega (arith, w) in ap (λ (w : ℕ). w % 2 ^ 14) word ∙ low
 
+  -- the data bytes by its tag
   size-back : sizeAt (written address tag value rest) ≡ dataSize tag
   size-back = ap dataSize tag-back
 
@@ -57,6 +62,7 @@ module _ (address tag value : ℕ) (rest : List ℕ) (w : Within address tag val
   unfolding messageOf
   summed = sealed-stands (written address tag value rest) 0 (covered address tag value) rest (dataSize tag + 4) refl (covered-length address tag value)
 
+  -- all of it lies there
   long : dataSize tag + 6 ≤ length (written address tag value rest)
   long = omega (arith, sealed-lies (written address tag value rest) 0 (dataSize tag + 4) summed)
 

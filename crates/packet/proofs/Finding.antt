@@ -23,9 +23,11 @@ pub record Passed (l : List ℕ) (at : ℕ) : Type 0 where
   pub rest : findFrom l 0 (length l) ≡ findFrom l at (length l - at)
   pub failed : failedBefore l at ≡ at
 
+-- before the first place
 pub passed-none : (l : List ℕ) → Passed l 0
 passed-none l = record { within = zero-le; rest = ap (findFrom l 0) (sym (sub-zero (length l))); failed = refl }
 
+-- one place more at which no packet stands
 pub passed-more : {l : List ℕ} {at : ℕ} → Passed l at → at < length l → stands l at ≡ false → Passed l (at + 1)
 passed-more {l} {at} p h e =
     record { within = omega arith; rest = p .rest ∙ find-on l at h e; failed = failed-more l at e (p .failed) }
@@ -51,25 +53,28 @@ unfolding findMeans
 nowhere {l} {at} n p h =
     record { answer = rw (le-ltb 65536 (length l) n) (ap (refusedWith 20) (sym (p .failed)) ∙ sym (p .rest ∙ find-none l at h)) }
 
--- the header of a capture that is too long, where a packet stands, and where none does
+-- the header of a capture that is too long
 pub header-long : {l : List ℕ} {at : ℕ} → 65536 < length l → HeaderPromise l at H.TooLong
 unfolding headerMeans
 header-long {l} h = record { answer = rw (lt-ltb 65536 (length l) h) }
 
+-- where a packet stands
 pub header-here : {l : List ℕ} {at apid n : ℕ} → length l ≤ 65536 → stands l at ≡ true → apid ≡ apidAt l at → n ≡ dataLength l at
     → HeaderPromise l at (H.Packet apid n)
 unfolding headerMeans
 header-here {l} fits e a n =
     record { answer = rw (le-ltb 65536 (length l) fits, e) (ap₂ (λ (x y : ℕ). accepted (record { apid = x; length = y })) a n) }
 
+-- where none stands
 pub header-none : {l : List ℕ} {at : ℕ} → length l ≤ 65536 → stands l at ≡ false → HeaderPromise l at H.NoPacket
 unfolding headerMeans
 header-none {l} n e = record { answer = rw (le-ltb 65536 (length l) n, e) }
 
--- the data may be handed back where the capture is not too long and a packet stands
+-- of a capture that is too long no data is handed back
 pub handed-long : (l : List ℕ) (at : ℕ) → 65536 < length l → handed l at ≡ false
 handed-long l at h = rw (lt-ltb 65536 (length l) h)
 
+-- of a capture that is not too long, the packet settles it
 pub handed-by : (l : List ℕ) (at : ℕ) {b : Bool} → length l ≤ 65536 → stands l at ≡ b → handed l at ≡ b
 handed-by l at n e = rw (le-ltb 65536 (length l) n) e
 

@@ -22,6 +22,7 @@ module _ {l : List ℕ} {at : ℕ} {room : Bool} (p : LiesPromise l at 10 room) 
   too-near-the-end e = rw (answered-no (p .answer) e)
 
   module _ (roomy : not room ≡ false) {mark : Bool} (q : mark ≡ marked l at) where
+    -- ten bytes lie there
     ten : lies l at 10 ≡ true
     ten = answered-yes (p .answer) roomy
 

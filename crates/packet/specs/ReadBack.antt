@@ -19,10 +19,11 @@ use Rattle.crc.specs.Writing.{passed-two}
 use Rattle.packet.specs.Meaning.{covered, packetOf, dataLength, stands, findFrom, findMeans, headerMeans, payloadMeans, writeMeans}
 use Rattle.packet.specs.Laws.{Standing, stands-so, find-here}
 
--- what the checksum covers has n+8 bytes, the whole packet n+10
+-- what a packet's checksum covers has n+8 bytes
 pub covered-length : (apid : ℕ) (payload : List ℕ) → length (covered apid payload) ≡ length payload + 8
 covered-length apid payload = omega arith
 
+-- the whole packet has n+10 bytes
 pub packet-length : (apid : ℕ) (payload : List ℕ) → length (packetOf apid payload) ≡ length payload + 10
 unfolding packetOf
 packet-length apid payload = omega (arith, length-sealed (covered apid payload), covered-length apid payload)
@@ -37,6 +38,7 @@ module _ (apid : ℕ) (payload rest : List ℕ) (small : length payload ≤ 8187
   unfolding packetOf sealedOf
   length-word = number-bytesOf 2 (length payload + 4) (omega arith)
 
+  -- so n is the length of the data
   data-length : dataLength (written apid payload rest) 0 ≡ length payload
   data-length = let same : length payload + 4 - 4 ≡ length payload = omega arith in ap (λ (w : ℕ). w - 4) length-word ∙ same
 
@@ -45,9 +47,11 @@ module _ (apid : ℕ) (payload rest : List ℕ) (small : length payload ≤ 8187
   unfolding packetOf
   summed = sealed-stands (written apid payload rest) 0 (covered apid payload) rest (length payload + 8) refl (covered-length apid payload)
 
+  -- all of it lies there
   long : length payload + 10 ≤ length (written apid payload rest)
   long = omega (arith, sealed-lies (written apid payload rest) 0 (length payload + 8) summed)
 
+  -- mark, length and checksum agree
   all-holds : Standing (written apid payload rest) 0
   unfolding packetOf sealedOf
   all-holds =
