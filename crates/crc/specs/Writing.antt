@@ -13,17 +13,17 @@ module _ {A L : Type 0} where
   afterTwo s t n k lent x leaves = pick s (refuse n lent) (pick t (refuse k lent) (accept x leaves))
 
   -- where it was accepted neither refused, and its value and what it leaves are these
-  pub record Passed (s t : Bool) (x y : A) (leaves left : L) : Type 0 where
+  pub record TwoPassed (s t : Bool) (x y : A) (leaves left : L) : Type 0 where
     pub first : s ≡ false
     pub second : t ≡ false
     pub value : y ≡ x
     pub leaving : left ≡ leaves
 
-  pub passed-two : (s t : Bool) (n k : ℕ) (lent : L) {x y : A} {leaves left : L} → accept y left ≡ afterTwo s t n k lent x leaves
-      → Passed s t x y leaves left
-  passed-two true t n k lent e = absurd (refused-not (sym (ap (λ (o : Outcome A L). o .answer) e)))
-  passed-two false true n k lent e = absurd (refused-not (sym (ap (λ (o : Outcome A L). o .answer) e)))
-  passed-two false false n k lent e =
+  pub two-passed : (s t : Bool) (n k : ℕ) (lent : L) {x y : A} {leaves left : L} → accept y left ≡ afterTwo s t n k lent x leaves
+      → TwoPassed s t x y leaves left
+  two-passed true t n k lent e = absurd (refused-not (sym (ap (λ (o : Outcome A L). o .answer) e)))
+  two-passed false true n k lent e = absurd (refused-not (sym (ap (λ (o : Outcome A L). o .answer) e)))
+  two-passed false false n k lent e =
       record {
         first = refl;
         second = refl;

@@ -31,5 +31,5 @@ module _ (address tag value : ℕ) where
   no-tag h g = rw (le-leb address 0x3FFF h, lt-leb tag 3 g)
 
   -- no bit of a 64-bit value is beyond eight bytes
-  pub whole : address ≤ 0x3FFF → tag ≡ 3 → value < 2 ^ 64 → true ≡ sayable address tag value
-  whole h is g = sym (lt-ltb value (256 ^ 8) g) ∙ near h is refl
+  pub all-bits : address ≤ 0x3FFF → tag ≡ 3 → value < 2 ^ 64 → true ≡ sayable address tag value
+  all-bits h is g = sym (lt-ltb value (256 ^ 8) g) ∙ near h is refl

@@ -1,49 +1,27 @@
--- How reading goes, test after test: what callers cite.
+-- What callers cite of reading and writing.
 -- Assumes nothing.
 use mathlib.Core.Path.{_≡_}
 use mathlib.Core.Bool.{Bool, true, false, not}
 use mathlib.Core.List.{List}
 use Prim.Native.Nat.{ℕ, _+_, _^_, _<_, _≤_}
-use borrow.Author.Tests.{lt-ltb, le-ltb, leb-true, ltb-true}
+use borrow.Author.Tests.{le-ltb, leb-true, ltb-true}
 use lib.Dec.{ltb}
 use lib.ListN.{length, take, drop}
 use Rattle.ground.specs.Questions.{answered-yes, both-hold}
-use Rattle.ground.specs.Paper.{accepted, refused}
+use Rattle.ground.specs.Paper.{accepted}
 use Rattle.ground.specs.Outcome.{Stays}
 use Rattle.ground.specs.Words.{number}
 use Rattle.crc.specs.Meaning.{sealedAt}
 use Rattle.crc.specs.Writing.{two-stay}
 use Rattle.message.specs.Meaning.{dataSize, marked, sizeAt, addressAt, tagAt, readMeans, sayable, writeMeans}
 
-module _ (bytes : List ℕ) where
-  -- under 4 bytes
-  pub read-short : length bytes < 4 → refused 5 ≡ readMeans bytes
-  unfolding readMeans
-  read-short h = rw (lt-ltb (length bytes) 4 h)
-
-  module _ (h : 4 ≤ length bytes) where
-    -- a wrong mark
-    pub read-unmarked : marked bytes ≡ false → refused 4 ≡ readMeans bytes
-    unfolding readMeans
-    read-unmarked m = rw (le-ltb (length bytes) 4 h, m)
-
-    module _ (m : marked bytes ≡ true) (size : ℕ) (is : size ≡ sizeAt bytes) where
-      -- cut short
-      pub read-cut : length bytes < size + 6 → refused 5 ≡ readMeans bytes
-      unfolding readMeans
-      read-cut g = rw (le-ltb (length bytes) 4 h, m, ← is, lt-ltb (length bytes) (size + 6) g)
-
-      -- a wrong checksum
-      pub read-unsealed : size + 6 ≤ length bytes → sealedAt bytes 0 (size + 4) ≡ false → refused 6 ≡ readMeans bytes
-      unfolding readMeans
-      read-unsealed g s = rw (le-ltb (length bytes) 4 h, m, ← is, le-ltb (length bytes) (size + 6) g, s)
-
-      -- a message
-      pub read-so : size + 6 ≤ length bytes → sealedAt bytes 0 (size + 4) ≡ true
-          → accepted (record { address = addressAt bytes; tag = tagAt bytes; value = number (take size (drop 4 bytes)); used = size + 6 })
-          ≡ readMeans bytes
-      unfolding readMeans
-      read-so g s = rw (le-ltb (length bytes) 4 h, m, ← is, le-ltb (length bytes) (size + 6) g, s)
+-- where all tests hold, reading answers the message
+pub read-so : (bytes : List ℕ) (size : ℕ) → 4 ≤ length bytes → marked bytes ≡ true → size ≡ sizeAt bytes → size + 6 ≤ length bytes
+    → sealedAt bytes 0 (size + 4) ≡ true
+    → accepted (record { address = addressAt bytes; tag = tagAt bytes; value = number (take size (drop 4 bytes)); used = size + 6 })
+    ≡ readMeans bytes
+unfolding readMeans
+read-so bytes size room mark is whole sealed = rw (le-ltb (length bytes) 4 room, mark, ← is, le-ltb (length bytes) (size + 6) whole, sealed)
 
 -- an address, a tag and a value within the rule
 pub record Within (address tag value : ℕ) : Type 0 where

@@ -13,7 +13,7 @@ use Rattle.ground.specs.Outcome.{accept}
 use Rattle.ground.specs.Words.{number, bytesOf, wordAt, number-bytesOf, length-bytesOf}
 use Rattle.crc.specs.Meaning.{checksumOf, sealedOf, sealedAt}
 use Rattle.crc.specs.Sealing.{length-sealed, sealed-front, sealed-stands, sealed-lies}
-use Rattle.crc.specs.Writing.{passed-two}
+use Rattle.crc.specs.Writing.{two-passed}
 use Rattle.message.specs.Laws.{Within, within, read-so}
 use Rattle.message.specs.Meaning.{dataSize, tagWord, covered, messageOf, tagAt, addressAt, sizeAt, readMeans, sayable, writeMeans}
 
@@ -73,7 +73,7 @@ module _ (address tag value : ℕ) (rest : List ℕ) (w : Within address tag val
   written-read =
       let l = written address tag value rest in
       let n = dataSize tag in
-      sym (read-so l (omega (arith, long)) refl n (sym size-back) long summed)
+      sym (read-so l n (omega (arith, long)) refl (sym size-back) long summed)
       ∙ ap (λ (x : ℕ). accepted (record { address = x; tag = tagAt l; value = number (take n (drop 4 l)); used = n + 6 })) address-back
       ∙ ap₂ (λ (x y : ℕ). accepted (record { address = address; tag = x; value = y; used = n + 6 })) tag-back value-back
 
@@ -88,5 +88,5 @@ pub write-accepted : (buffer : List ℕ) (address tag value : ℕ) {n : ℕ} {af
     → Accepted buffer address tag value n after
 unfolding writeMeans
 write-accepted buffer address tag value e =
-    let passed = passed-two (not (sayable address tag value)) (ltb (length buffer) (dataSize tag + 6)) 7 3 buffer e in
+    let passed = two-passed (not (sayable address tag value)) (ltb (length buffer) (dataSize tag + 6)) 7 3 buffer e in
     record { inside = within refl (passed .first); count = passed .value; leaves = passed .leaving }

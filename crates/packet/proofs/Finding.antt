@@ -4,7 +4,7 @@ use mathlib.Core.Path.{_≡_, refl, sym, ap, ap₂, _∙_}
 use mathlib.Core.Bool.{Bool, true, false}
 use mathlib.Core.List.{List, []}
 use Prim.Native.Nat.{ℕ, _+_, _-_, _<_, _≤_, zero-le}
-use native.Mathlib.Nat.{sub-zero, add-zero, add-comm}
+use native.Mathlib.Nat.{sub-zero}
 use native.Mathlib.Omega.{arith}
 use borrow.Author.Tests.{lt-ltb, le-ltb}
 use denote.Ref.{RefT}
@@ -33,9 +33,9 @@ passed-more {l} {at} p h e =
     record { within = omega arith; rest = p .rest ∙ find-on l at h e; failed = failed-more l at e (p .failed) }
 
 -- a capture that is too long
-pub long : {l : List ℕ} → 65536 < length l → FindPromise l F.TooLong
+pub too-long : {l : List ℕ} → 65536 < length l → FindPromise l F.TooLong
 unfolding findMeans
-long {l} h = record { answer = rw (lt-ltb 65536 (length l) h) }
+too-long {l} h = record { answer = rw (lt-ltb 65536 (length l) h) }
 
 -- the first packet
 pub here : {l : List ℕ} {at : ℕ} → length l ≤ 65536 → Passed l at → at < length l → stands l at ≡ true
@@ -78,25 +78,14 @@ handed-long l at h = rw (lt-ltb 65536 (length l) h)
 pub handed-by : (l : List ℕ) (at : ℕ) {b : Bool} → length l ≤ 65536 → stands l at ≡ b → handed l at ≡ b
 handed-by l at n e = rw (le-ltb 65536 (length l) n) e
 
-module _ (capture : RefT (List ℕ)) (at : ℕ) {r : RefT (List ℕ)} where
-  -- no data: an empty part at the capture's start
-  pub empty-part : handed (capture .now) at ≡ false → r .now ≡ [] → r .ptr .0 ≡ capture .ptr .0 → r .ptr .1 ≡ capture .ptr .1
-      → PayloadPromise capture at r
-  unfolding payloadMeans payloadStart
-  empty-part h bytes block place =
-      record {
-        bytes = bytes ∙ ap (λ (b : Bool). pick b (take (dataLength (capture .now) at) (drop (at + 8) (capture .now))) []) (sym h);
-        block = block;
-        place = place ∙ sym (add-zero (capture .ptr .1)) ∙ ap (λ (b : Bool). capture .ptr .1 + pick b (at + 8) 0) (sym h);
-      }
-
-  -- the data, 8 after the packet's place
-  pub data-part : handed (capture .now) at ≡ true → r .now ≡ take (dataLength (capture .now) at) (drop (at + 8) (capture .now))
-      → r .ptr .0 ≡ capture .ptr .0 → r .ptr .1 ≡ at + 8 + capture .ptr .1 → PayloadPromise capture at r
-  unfolding payloadMeans payloadStart
-  data-part h bytes block place =
-      record {
-        bytes = bytes ∙ ap (λ (b : Bool). pick b (take (dataLength (capture .now) at) (drop (at + 8) (capture .now))) []) (sym h);
-        block = block;
-        place = place ∙ add-comm (at + 8) (capture .ptr .1) ∙ ap (λ (b : Bool). capture .ptr .1 + pick b (at + 8) 0) (sym h);
-      }
+-- what is handed back by that test: the data, 8 after the packet's place, or an empty part at the capture's start
+pub handed-part : (capture : RefT (List ℕ)) (at : ℕ) {r : RefT (List ℕ)} (b : Bool) → handed (capture .now) at ≡ b
+    → r .now ≡ pick b (take (dataLength (capture .now) at) (drop (at + 8) (capture .now))) [] → r .ptr .0 ≡ capture .ptr .0
+    → r .ptr .1 ≡ capture .ptr .1 + pick b (at + 8) 0 → PayloadPromise capture at r
+unfolding payloadMeans payloadStart
+handed-part capture at b h bytes block place =
+    record {
+      bytes = bytes ∙ ap (λ (x : Bool). pick x (take (dataLength (capture .now) at) (drop (at + 8) (capture .now))) []) (sym h);
+      block = block;
+      place = place ∙ ap (λ (x : Bool). capture .ptr .1 + pick x (at + 8) 0) (sym h);
+    }

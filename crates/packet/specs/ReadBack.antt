@@ -15,7 +15,7 @@ use Rattle.ground.specs.Outcome.{accept}
 use Rattle.ground.specs.Words.{bytesOf, wordAt, number-bytesOf}
 use Rattle.crc.specs.Meaning.{checksumOf, sealedOf, sealedAt}
 use Rattle.crc.specs.Sealing.{length-sealed, sealed-front, sealed-stands, sealed-lies}
-use Rattle.crc.specs.Writing.{passed-two}
+use Rattle.crc.specs.Writing.{two-passed}
 use Rattle.packet.specs.Meaning.{covered, packetOf, dataLength, stands, findFrom, findMeans, headerMeans, payloadMeans, writeMeans}
 use Rattle.packet.specs.Laws.{Standing, stands-so, find-here}
 
@@ -105,7 +105,7 @@ pub write-accepted : (buffer : List ℕ) (apid : ℕ) (payload : List ℕ) {n : 
     → Accepted buffer apid payload n after
 unfolding writeMeans
 write-accepted buffer apid payload e =
-    let passed = passed-two (ltb 8187 (length payload)) (ltb (length buffer) (length payload + 10)) 2 3 buffer e in
+    let passed = two-passed (ltb 8187 (length payload)) (ltb (length buffer) (length payload + 10)) 2 3 buffer e in
     record {
       small = ltb-false 8187 (length payload) (passed .first);
       room = ltb-false (length buffer) (length payload + 10) (passed .second);

@@ -1,7 +1,6 @@
 -- `message::read` meets its contract: the tests one after the other.
 -- Assumes nothing.
 use borrow.Author.Needs.{needs}
-use Rattle.ground.specs.Questions.{answered-no, answered-yes}
 use Rattle.message.proofs.Reading.{under-four, wrong-first, wrong-second, cut-short, wrong-checksum, a-message}
 use Rattle.message.proofs.read.Statement.{statement}
 use Rattle.message.proofs.read.Tie as tie
@@ -33,7 +32,7 @@ returns-5 c =
     let second = word .before in
     let first = second .before .before in
     wrong-checksum (search needs) (first .if2 .left) (second .if3 .left) (word .word-at .ensures) (size .data-size .ensures .0) (search needs)
-    (answered-no (seal .sealed .ensures .answer) (c .if5 .taken))
+    (seal .sealed .ensures) (c .if5 .taken)
 
 returns-6 : tie.Need-returns-6
 returns-6 c =
@@ -44,7 +43,7 @@ returns-6 c =
     let second = word .before in
     let first = second .before .before in
     a-message (search needs) (first .if2 .left) (second .if3 .left) (word .word-at .ensures) (size .data-size .ensures .0) (search needs)
-    (answered-yes (seal .sealed .ensures .answer) (whole .if5 .left)) (c .number-at .ensures)
+    (seal .sealed .ensures) (whole .if5 .left) (c .number-at .ensures)
 
 pub read-spec : {M : Type 1} → statement M
 read-spec =

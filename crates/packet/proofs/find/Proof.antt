@@ -4,7 +4,7 @@ use Prim.Native.Nat.{_-_}
 use mathlib.Core.Path.{sym, _∙_}
 use borrow.Author.Needs.{needs}
 use lib.ListN.{length}
-use Rattle.packet.proofs.Finding.{Passed, passed-none, passed-more, long, here, nowhere}
+use Rattle.packet.proofs.Finding.{Passed, passed-none, passed-more, too-long, here, nowhere}
 use Rattle.packet.proofs.find.Statement.{statement}
 use Rattle.packet.proofs.find.Tie as tie
 
@@ -15,7 +15,7 @@ abbrev μ-loop : tie.MeasureT-loop
 μ-loop capture place₀ place = length capture - place
 
 returns : tie.Need-returns Inv-loop μ-loop
-returns c = long (search needs)
+returns c = too-long (search needs)
 
 loop-holds : tie.Need-loop-holds Inv-loop μ-loop
 loop-holds c = passed-none (c .before .before .args .capture .now)

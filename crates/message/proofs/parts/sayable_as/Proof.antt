@@ -3,7 +3,7 @@
 use mathlib.Core.Path.{refl}
 use native.Mathlib.Omega.{arith}
 use borrow.Author.Needs.{needs}
-use Rattle.message.proofs.Tags.{far, near, no-tag, whole}
+use Rattle.message.proofs.Tags.{far, near, no-tag, all-bits}
 use Rattle.message.proofs.parts.sayable_as.Statement.{statement}
 use Rattle.message.proofs.parts.sayable_as.Tie as tie
 
@@ -20,7 +20,7 @@ returns-4 : tie.Need-returns-4
 returns-4 c = let a = c .before .before .args in near (a .address) (a .tag) (a .value) (search needs) (c .match .keys3) refl
 
 returns-5 : tie.Need-returns-5
-returns-5 c = let a = c .before .before .args in whole (a .address) (a .tag) (a .value) (search needs) (c .match .keys4) (search needs)
+returns-5 c = let a = c .before .before .args in all-bits (a .address) (a .tag) (a .value) (search needs) (c .match .keys4) (search needs)
 
 returns-6 : tie.Need-returns-6
 returns-6 c = let a = c .before .before .args in no-tag (a .address) (a .tag) (a .value) (search needs) (omega arith)
