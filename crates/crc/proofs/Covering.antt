@@ -8,7 +8,7 @@ use native.Mathlib.Omega.{arith}
 use borrow.Author.Tests.{le-leb, lt-leb, leb-true, leb-false}
 use lib.Dec.{eqb}
 use lib.ListN.{length, take, drop}
-use Rattle.ground.specs.Words.{bytesOf, wordAt}
+use Rattle.ground.specs.Words.{bytesOf}
 use Rattle.ground.specs.Meaning.{lies}
 use Rattle.ground.specs.Questions.{answered-no, answered-yes}
 use Rattle.ground.specs.Promise.{LiesPromise, WordPromise, PutPromise}

@@ -14,7 +14,7 @@ use lib.Seq.{drop-cons}
 use Rattle.crc.specs.Meaning.{step, run}
 use Rattle.crc.specs.Folding.{sixteen, afterWord, afterFour, Pair, Word}
 use Rattle.crc.proofs.Sixteen.{sixteen-lt, two-steps}
-use Rattle.crc.proofs.Folds.{afterWord-lt, afterFour-lt}
+use Rattle.crc.proofs.Folds.{afterWord-lt}
 
 -- the register takes the next byte
 pub run-next : (r : ℕ) (l : List ℕ) (i : ℕ) → i < length l → run r (drop i l) ≡ run (step r (getD l i 0)) (drop (i + 1) l)

@@ -3,7 +3,7 @@
 use mathlib.Core.Path.{_≡_, refl, sym, ap, ap₂, _∙_}
 use mathlib.Core.Bool.{true, not}
 use mathlib.Core.List.{List, _++_}
-use Prim.Native.Nat.{ℕ, _+_, _/_, _%_, _^_, _<_, _≤_}
+use Prim.Native.Nat.{ℕ, _+_, _/_, _%_, _^_, _≤_}
 use native.Mathlib.Omega.{arith}
 use lib.Dec.{ltb}
 use lib.ListN.{length, take, drop}
@@ -12,7 +12,7 @@ use Rattle.ground.specs.Paper.{accepted}
 use Rattle.ground.specs.Outcome.{accept}
 use Rattle.ground.specs.Words.{number, bytesOf, wordAt, number-bytesOf, length-bytesOf}
 use Rattle.crc.specs.Meaning.{checksumOf, sealedOf, sealedAt}
-use Rattle.crc.specs.Sealing.{length-sealed, sealed-front, sealed-stands, sealed-lies}
+use Rattle.crc.specs.Sealing.{sealed-front, sealed-stands, sealed-lies}
 use Rattle.crc.specs.Writing.{two-passed}
 use Rattle.message.specs.Laws.{Within, within, read-so}
 use Rattle.message.specs.Meaning.{dataSize, tagWord, covered, messageOf, tagAt, addressAt, sizeAt, readMeans, sayable, writeMeans}
@@ -20,11 +20,6 @@ use Rattle.message.specs.Meaning.{dataSize, tagWord, covered, messageOf,
 -- what a message's checksum covers has four bytes more than the data
 pub covered-length : (address tag value : ℕ) → length (covered address tag value) ≡ dataSize tag + 4
 covered-length address tag value = omega (arith, length-bytesOf (dataSize tag) value)
-
--- the whole message has six bytes more
-pub message-length : (address tag value : ℕ) → length (messageOf address tag value) ≡ dataSize tag + 6
-unfolding messageOf
-message-length address tag value = omega (arith, length-sealed (covered address tag value), covered-length address tag value)
 
 -- a written message and whatever follows it
 abbrev pub written : ℕ → ℕ → ℕ → List ℕ → List ℕ
