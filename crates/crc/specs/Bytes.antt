@@ -15,13 +15,14 @@ use Rattle.ground.specs.Words.{bytesOf, number, wordAt}
 abbrev pub Bytes : List ℕ → Type 0
 Bytes l = (i : ℕ) → getD l i 0 < 256
 
--- a part of bytes, and what follows one, are bytes
+-- a part of bytes is bytes
 pub bytes-take : (n : ℕ) (l : List ℕ) → Bytes l → Bytes (take n l)
 bytes-take zero l b i = zero-lt-suc 255
 bytes-take (suc n) [] b i = zero-lt-suc 255
 bytes-take (suc n) (x ∷ xs) b zero = b zero
 bytes-take (suc n) (x ∷ xs) b (suc i) = bytes-take n xs (λ j. b (suc j)) i
 
+-- what follows a part of bytes is bytes
 pub bytes-drop : (n : ℕ) (l : List ℕ) → Bytes l → Bytes (drop n l)
 bytes-drop n l b i = subst (λ (x : ℕ). x < 256) (sym (getD-drop n l i 0)) (b (n + i))
 

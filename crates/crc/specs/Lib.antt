@@ -5,3 +5,4 @@ pub mod Folding
 pub mod Promise
 pub mod OneOutcome
 pub mod Sealing
+pub mod Writing
