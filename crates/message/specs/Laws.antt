@@ -9,10 +9,9 @@ use lib.Dec.{ltb}
 use lib.ListN.{length, take, drop}
 use Rattle.ground.specs.Questions.{answered-yes, both-hold}
 use Rattle.ground.specs.Paper.{accepted}
-use Rattle.ground.specs.Outcome.{Stays}
+use Rattle.ground.specs.Outcome.{Stays, two-stay}
 use Rattle.ground.specs.Words.{number}
 use Rattle.crc.specs.Meaning.{sealedAt}
-use Rattle.crc.specs.Writing.{two-stay}
 use Rattle.message.specs.Meaning.{dataSize, marked, sizeAt, addressAt, tagAt, readMeans, sayable, writeMeans}
 
 -- where all tests hold, reading answers the message

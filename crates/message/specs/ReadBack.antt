@@ -9,11 +9,10 @@ use lib.Dec.{ltb}
 use lib.ListN.{length, take, drop}
 use lib.Seq.{take-at}
 use Rattle.ground.specs.Paper.{accepted}
-use Rattle.ground.specs.Outcome.{accept}
+use Rattle.ground.specs.Outcome.{accept, two-passed}
 use Rattle.ground.specs.Words.{number, bytesOf, wordAt, number-bytesOf, length-bytesOf}
 use Rattle.crc.specs.Meaning.{checksumOf, sealedOf, sealedAt}
 use Rattle.crc.specs.Sealing.{sealed-front, sealed-stands, sealed-lies}
-use Rattle.crc.specs.Writing.{two-passed}
 use Rattle.message.specs.Laws.{Within, within, read-so}
 use Rattle.message.specs.Meaning.{dataSize, tagWord, covered, messageOf, tagAt, addressAt, sizeAt, readMeans, sayable, writeMeans}
 

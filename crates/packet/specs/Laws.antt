@@ -11,12 +11,11 @@ use lib.Dec.{ltb}
 use lib.ListN.{length, take, drop, length-take, length-drop}
 use Rattle.ground.specs.Questions.{both-hold}
 use Rattle.ground.specs.Paper.{accepted, refusedWith}
-use Rattle.ground.specs.Outcome.{Stays}
+use Rattle.ground.specs.Outcome.{Stays, two-stay}
 use Rattle.ground.specs.Words.{wordAt}
 use Rattle.ground.specs.Meaning.{lies}
 use Rattle.crc.specs.Meaning.{sealedAt}
 use Rattle.crc.specs.Sealing.{sealed-lies}
-use Rattle.crc.specs.Writing.{two-stay}
 use Rattle.packet.specs.Meaning.{marked, sized, dataLength, stands, failedBefore, findFrom, writeMeans}
 
 -- mark, length and checksum agree at a place, and all of it lies in the capture

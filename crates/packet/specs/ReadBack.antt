@@ -11,11 +11,10 @@ use lib.Dec.{ltb}
 use lib.ListN.{length, take, drop}
 use lib.Seq.{take-at}
 use Rattle.ground.specs.Paper.{accepted}
-use Rattle.ground.specs.Outcome.{accept}
+use Rattle.ground.specs.Outcome.{accept, two-passed}
 use Rattle.ground.specs.Words.{bytesOf, wordAt, number-bytesOf}
 use Rattle.crc.specs.Meaning.{checksumOf, sealedOf, sealedAt}
 use Rattle.crc.specs.Sealing.{length-sealed, sealed-front, sealed-stands, sealed-lies}
-use Rattle.crc.specs.Writing.{two-passed}
 use Rattle.packet.specs.Meaning.{covered, packetOf, dataLength, stands, findFrom, findMeans, headerMeans, payloadMeans, writeMeans}
 use Rattle.packet.specs.Laws.{Standing, stands-so, find-here}
 
