@@ -105,16 +105,8 @@ fn put_bits(room: &mut [u8], at: usize, bytes: &[u8], count: u64) -> usize
 {
     let mut i: usize = 0;
     while (i as u64) < count {
-        room[at + i] = 48 + bit_of(bytes[i / 8], (i % 8) as u8);
+        room[at + i] = 48 + code::bit_of(bytes[i / 8], (i % 8) as u8);
         i += 1;
     }
     at + i
-}
-
-// A bit of a byte, most significant first.
-fn bit_of(byte: u8, place: u8) -> u8
-    requires { ⌜ place < 8 ⌝ }
-    ensures { λ r. ⌜ (r ≡ byte / 2 ^ (7 - place) % 2) × (r < 2) ⌝ }
-{
-    (byte >> (7 - place)) % 2
 }
