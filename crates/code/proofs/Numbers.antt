@@ -1,8 +1,8 @@
--- Laws of numbers as the machine computes them: a power of two by a shift, bits left out, a magnitude with its sign. Writing, reading and the lines cite them.
+-- Laws of numbers as the machine computes them: a power of two by a shift, a bit of a byte, a magnitude with its sign. Writing, reading and the lines cite them.
 -- Assumes nothing.
 use mathlib.Core.Path.{_≡_, refl, sym, ap, _∙_, subst}
 use mathlib.Core.Bool.{Bool}
-use Prim.Native.Nat.{ℕ, zero, suc, _+_, _*_, _-_, _/_, _%_, _^_, _<_, _≤_}
+use Prim.Native.Nat.{ℕ, zero, suc, _*_, _-_, _/_, _%_, _^_, _<_, _≤_}
 use native.Mathlib.Nat.{mod-eq-of-lt, mod-lt, div-one, one-mul}
 use native.Mathlib.Omega.{arith}
 use lib.IntN.{ℤ, pos, negsuc, negℤ, _-ℤ_, +ℤ-idl}
@@ -10,9 +10,9 @@ use lib.Pow.{pow-pos, pow-lt}
 use mir.Syntax.{w32}
 use mir.Val.{toZ, ofZ, SFits}
 use mir.ValLaws.{toZ-pos, toZ-ofZ}
-use borrow.Author.Tests.{lt-ltb, le-ltb, eq-eqb, ne-eqb}
+use borrow.Author.Tests.{lt-ltb, le-ltb}
 use Rattle.ground.specs.Choice.{pick}
-use Rattle.code.specs.Meaning.{signed, largest, leftOut}
+use Rattle.code.specs.Meaning.{signed, largest}
 use Rattle.code.specs.Promise.{PowerPromise, BitPromise}
 
 -- a power of two as a shift gives it, at any width that holds it
@@ -40,14 +40,6 @@ pub last-bit : (byte place : ℕ) → 8 ≤ place → BitPromise byte place (byt
 last-bit byte place h =
     let none : 7 - place ≡ 0 = omega arith in
     record { answer = sym (ap (λ (n : ℕ). byte / 2 ^ n % 2) none ∙ ap (λ (n : ℕ). n % 2) (div-one byte)); bit = mod-lt byte (pow-pos 1) }
-
--- the bits left out of 16 to 31
-pub left-four : (k d w : ℕ) → k ≡ 4 → w ≡ d → 1 + w ≡ leftOut d k
-left-four k d w e q = ap (λ (n : ℕ). 1 + n) q ∙ ap (λ (b : Bool). pick b (1 + d) (k / 2 + d)) (sym (eq-eqb k 4 e))
-
--- and of every other place
-pub left-other : (k d w : ℕ) → (k ≡ 4 → ⊥) → w ≡ d → k / 2 + w ≡ leftOut d k
-left-other k d w e q = ap (λ (n : ℕ). k / 2 + n) q ∙ ap (λ (b : Bool). pick b (1 + d) (k / 2 + d)) (sym (ne-eqb k 4 e))
 
 -- a magnitude inside the rule is read back from its bits
 pub plus : (s m : ℕ) → s ≡ 0 → m ≤ largest → toZ w32 m ≡ signed s m

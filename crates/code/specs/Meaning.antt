@@ -57,12 +57,11 @@ leadingIn (suc places) m = pick (ltb m 2) zero (suc (leadingIn places (m / 2)))
 abbrev pub leading : ℕ → ℕ
 leading m = leadingIn 31 m
 
--- the bits below a leading one at place k that a code leaves out, the dashes of tables 14 and 15 of 000: 16 to 31 have "the three bits after the
--- leading one" less the drop; from 32 on "the first j+1-drop bits after the leading one" leave out k/2 and the drop
+-- the bits below a leading one at place k that a code leaves out: one and the drop of 16 to 31, half of k and the drop from 32 on
 abbrev pub leftOut : ℕ → ℕ → ℕ
 leftOut d k = pick (eqb k 4) (1 + d) (k / 2 + d)
 
--- the bits below the leading one that the code has
+-- those that it has: "the three bits after the leading one", "the first j+1-drop bits after the leading one" (`width-four`, `width-is`)
 abbrev pub width : ℕ → ℕ → ℕ
 width d k = k - leftOut d k
 
@@ -219,7 +218,7 @@ answerOf d at ranOut = refused 9
 answerOf d at redundantZero = refused 10
 answerOf d at runTooLong = refused 11
 
--- "A bit position past the end is refused by 9 on reading": at the end itself no bit is read either, but no bit is passed
+-- "A bit position past the end is refused by 9 on reading"; at the end itself bits run out as they arrive, by 9 too
 abbrev pub positionMeans : List ℕ → ℕ → ℕ → Paper ShapeValues
 positionMeans bytes at d =
     pick (ltb (length (bitsThatCount bytes)) at) (refused 9) (answerOf d at (parse greatestPlace d (drop at (bitsThatCount bytes))))

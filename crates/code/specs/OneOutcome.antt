@@ -9,7 +9,7 @@ use lib.IntN.{ℤ, natAbs}
 use lib.ListN.{length}
 use Rattle.ground.specs.Paper.{numberOf, one-answer, one-value}
 use Rattle.ground.specs.Outcome.{outcome-one}
-use Rattle.code.specs.Meaning.{bitsThatCount, dropKnown, largest, leftOut}
+use Rattle.code.specs.Meaning.{bitsThatCount, dropKnown, largest}
 use Rattle.code.specs.Answers.{packedPaper, packedBack, packed-home, shapePaper, shapeBack, shape-home, reasonOf, refusalNumber}
 use Rattle.code.specs.Answers.{unpackedPaper, unpackedBack, unpacked-home}
 use Rattle.code.specs.Promise.{PackPromise, ShapePromise, UnpackPromise, SignPromise, PowerPromise, BitPromise}
@@ -74,10 +74,6 @@ end-of-one bytes p q = one-value p q
 -- one power of two for an exponent
 pub power-one : (k : ℕ) {m n : ℕ} → PowerPromise k m → PowerPromise k n → m ≡ n
 power-one k p q = one-value (p .answer) (q .answer)
-
--- one number of bits left out for a place and a drop
-pub left-out-one : (place d : ℕ) {m n : ℕ} → m ≡ leftOut d place → n ≡ leftOut d place → m ≡ n
-left-out-one place d p q = one-value p q
 
 -- one bit for a byte and a place
 pub bit-of-one : (byte place : ℕ) {m n : ℕ} → BitPromise byte place m → BitPromise byte place n → m ≡ n

@@ -5,7 +5,7 @@ ghost use lib.Dec.{leb};
 ghost use lib.IntN.{natAbs};
 ghost use lib.ListN.{length};
 ghost use Rattle.ground.specs.Paper.{numberOf};
-ghost use Rattle.code.specs.Meaning.{bitsThatCount, dropKnown, largest, leftOut};
+ghost use Rattle.code.specs.Meaning.{bitsThatCount, dropKnown, largest};
 ghost use Rattle.code.specs.Answers.{packedPaper, unpackedPaper, refusalNumber, reasonOf};
 ghost use Rattle.code.specs.Promise.{SignPromise, PowerPromise, BitPromise};
 
@@ -149,17 +149,6 @@ pub fn power(k: u32) -> u32
     ensures { λ r. ⌜ PowerPromise k r ⌝ }
 {
     if k < 32 { 1 << k } else { 0 }
-}
-
-// How many bits below the leading one the code of a magnitude leaves out, by the place of its leading one.
-pub fn left_out(place: u32, drop: u8) -> u32
-    ensures { λ r. ⌜ r ≡ leftOut drop place ⌝ }
-{
-    if place == 4 {
-        1 + wide(drop)
-    } else {
-        place / 2 + wide(drop)
-    }
 }
 
 // A bit of a byte, the most significant first; the last bit at every place from 8 on.

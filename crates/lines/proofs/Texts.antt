@@ -13,7 +13,7 @@ use lib.ListN.{length, take, getD, set, length-map}
 use lib.Seq.{getD-take, length-take-le}
 use Rattle.ground.specs.Bits.{bitsOf}
 use Rattle.ground.specs.Choice.{pick}
-use Rattle.ground.specs.Putting.{put, Copied, copied-all, copied-none, copied-more}
+use Rattle.ground.specs.Putting.{Copied, copied-all, copied-none, copied-more}
 use Rattle.code.specs.BitLists.{length-bitsOf}
 use Rattle.code.specs.Positions.{getD-bitsOf, length-bitsThatCount, length-bytesFrom}
 use Rattle.ground.specs.Outcome.{Outcome, outcomeOf, accept}

@@ -7,12 +7,11 @@ use native.Mathlib.Nat.{add-zero}
 use native.Mathlib.Omega.{arith}
 use lib.Dec.{ltb, eqb}
 use lib.IntN.{ℤ, natAbs}
-use lib.ListN.{length, take, drop, length-append, length-map, take-append-drop, replicate, length-replicate}
+use lib.ListN.{length, take, drop, length-append, length-map, take-append-drop}
 use lib.Seq.{length-take-le}
 use Rattle.ground.specs.Choice.{pick-elim}
 use Rattle.ground.specs.Paper.{Paper, accepted, refusal}
 use Rattle.ground.specs.Putting.{put, put-next}
-use Rattle.ground.specs.Bits.{toBits}
 use Rattle.code.specs.Meaning.{codeOf, shapeOfNumber, greatestPlace, largest, signOf}
 use Rattle.code.specs.Shapes.{Drop, none, three, bits-few}
 use Rattle.code.specs.Magnitudes.{places, number-valid}

@@ -1,7 +1,7 @@
 // Text put into a room at a place: bytes, and a number's line: the value in shortest decimal, and both codes in digits 0 and 1.
 ghost use mathlib.Core.Path.{_≡_};
 ghost use mathlib.Core.List.{_∷_, [], map};
-ghost use Prim.Native.Nat.{_+_, _*_, _/_, _-_, _%_, _^_, _≤_, _<_};
+ghost use Prim.Native.Nat.{_+_, _/_, _-_, _%_, _≤_, _<_};
 ghost use lib.IntN.{natAbs};
 ghost use lib.ListN.{length, take};
 ghost use Rattle.ground.specs.Bits.{bitsOf};

@@ -12,7 +12,7 @@ use lib.ListN.{length, length-append, take, drop, getD, set, replicate, take-app
 use lib.Seq.{take-at, drop-at, length-take-le, take-append-le}
 use lib.Pow.{pow-pos, pow-mono, split, ones-lt, shr-shr}
 use lib.Dec.{ltb, leb}
-use borrow.Author.Tests.{lt-ltb, le-ltb, le-leb, lt-leb, ltb-true, ltb-false, ne-eqb}
+use borrow.Author.Tests.{lt-ltb, le-ltb, le-leb, lt-leb, ltb-true, ltb-false, eq-eqb, ne-eqb}
 use mir.Syntax.{w64}
 use mir.Val.{Fits}
 use Rattle.ground.specs.Choice.{pick}
@@ -338,6 +338,14 @@ put-done old now at count number left z e =
     e ∙ ap₂ (λ (m n : ℕ). put (bitsOf old) at (toBits m n)) all whole
 
 -- ---- the code of a magnitude from 16 on
+
+-- the bits left out of 16 to 31
+pub left-four : (k d w : ℕ) → k ≡ 4 → w ≡ d → 1 + w ≡ leftOut d k
+left-four k d w e q = ap (λ (n : ℕ). 1 + n) q ∙ ap (λ (b : Bool). pick b (1 + d) (k / 2 + d)) (sym (eq-eqb k 4 e))
+
+-- and of every other place
+pub left-other : (k d w : ℕ) → (k ≡ 4 → ⊥) → w ≡ d → k / 2 + w ≡ leftOut d k
+left-other k d w e q = ap (λ (n : ℕ). k / 2 + n) q ∙ ap (λ (b : Bool). pick b (1 + d) (k / 2 + d)) (sym (ne-eqb k 4 e))
 
 module _ (d s m k left x : ℕ) (place : k ≡ leading m) (left-is : left ≡ leftOut d k) (x-is : x ≡ m % 2 ^ k / 2 ^ left) where
   -- its field

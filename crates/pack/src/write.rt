@@ -6,7 +6,7 @@ ghost use lib.ListN.{length, take};
 ghost use mathlib.Core.List.{_++_};
 ghost use Rattle.ground.specs.Bits.{toBits, bitsOf};
 ghost use Rattle.ground.specs.Putting.{put as putOver};
-ghost use Rattle.code.specs.Meaning.{leastCoded, leading as leadingPlace, shapeOf, bits, coded as codedBits, ledOf, bitsThatCount, toByteEnd, largest, greatestPlace};
+ghost use Rattle.code.specs.Meaning.{leastCoded, leading as leadingPlace, shapeOf, bits, coded as codedBits, ledOf, leftOut, bitsThatCount, toByteEnd, largest, greatestPlace};
 ghost use Rattle.code.specs.Shapes.{Drop};
 ghost use Rattle.pack.specs.Steps.{Holds, PlacePromise, byteBits};
 
@@ -55,7 +55,7 @@ fn led(drop: u8, sign: u32, m: u32) -> Held
     ensures { λ r. ⌜ Holds (r .number) (r .count) (bits drop (ledOf drop sign (leadingPlace m) m)) ⌝ }
 {
     let k = leading(m);
-    let left = code::left_out(k, drop);
+    let left = left_out(k, drop);
     let width = k - left;
     let x = below(m, k, left);
     if k == 4 {
@@ -76,6 +76,17 @@ fn leading(m: u32) -> u32
     ensures { λ r. ⌜ (r ≡ leadingPlace m) × (4 ≤ r) × (r ≤ greatestPlace) ⌝ }
 {
     31 - u32::leading_zeros(m)
+}
+
+// How many bits below the leading one the code of a magnitude leaves out, by the place of its leading one.
+fn left_out(place: u32, drop: u8) -> u32
+    ensures { λ r. ⌜ r ≡ leftOut drop place ⌝ }
+{
+    if place == 4 {
+        1 + code::wide(drop)
+    } else {
+        place / 2 + code::wide(drop)
+    }
 }
 
 // The bits below a place, without so many at the end.

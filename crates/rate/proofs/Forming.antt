@@ -1,15 +1,15 @@
 -- Laws that the proofs of `reading` and `rate` cite: the counts of a shape that was read, and a reading over a level's seconds.
 -- Assumes nothing.
-use mathlib.Core.Path.{_≡_, sym, ap, ap₂, _∙_}
+use mathlib.Core.Path.{_≡_, sym, ap, _∙_}
 use mathlib.Core.List.{List}
-use Prim.Native.Nat.{ℕ, zero, suc, _+_, _-_, _^_, _<_}
+use Prim.Native.Nat.{ℕ, _+_, _-_, _^_, _<_}
 use native.Mathlib.Omega.{arith}
 use borrow.Author.Tests.{eq-eqb, ne-eqb}
 use Rattle.ground.specs.Paper.{Paper, accepted, refused, onward}
 use Rattle.code.specs.Meaning.{shapeMeans}
 use Rattle.code.specs.Answers.{shapePaper, refusalPaper}
 use Rattle.code.specs.Promise.{ShapePromise}
-use Rattle.code.specs.Theorems.{ReadFits, read-fits}
+use Rattle.code.specs.Theorems.{read-fits}
 use Rattle.code.specs.declared.Refusal.{Refusal}
 use Rattle.code.specs.declared.ShapeAnswer.{ShapeAnswer}
 use Rattle.code.specs.declared.ShapeAnswer.the-variants as S

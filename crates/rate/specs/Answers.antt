@@ -1,11 +1,9 @@
 -- What each answer is on document 01's paper, and the way back.
 -- Assumes nothing.
 use mathlib.Core.Path.{_≡_, refl, ap}
-use Prim.Native.Nat.{ℕ}
 use lib.Dec.{eqb}
 use Rattle.ground.specs.Choice.{pick}
 use Rattle.ground.specs.Paper.{Paper, accepted, refusal, refused}
-use Rattle.code.specs.declared.Refusal.{Refusal}
 use Rattle.code.specs.declared.Refusal.the-variants.{OutsideRule, RanOut, RedundantZero, RunTooLong}
 use Rattle.code.specs.Answers.{refusalPaper, refusalBack, refusal-home}
 use Rattle.rate.specs.declared.ReadingAnswer.{ReadingAnswer}

@@ -6,7 +6,7 @@ use Prim.Native.Nat.{ℕ, zero, suc, _+_, _*_, _-_, _^_, _<_, _≤_}
 use native.Mathlib.Nat.{le-trans, pow-suc}
 use native.Mathlib.Omega.{arith}
 use lib.IntN.{ℤ, natAbs}
-use lib.Pow.{pow-pos, pow-mono}
+use lib.Pow.{pow-pos}
 use borrow.Author.Tests.{eq-eqb, eqb-true}
 use Rattle.code.specs.Meaning.{Shape, nought, small, led, shapeOfNumber, signOf, magnitude, error, lowest, highest, leftOut, filled, greatestPlace, largest}
 use Rattle.code.specs.Shapes.{Drop, none, three, below-led, Valid}

@@ -1,10 +1,10 @@
 -- What was packed and is read: the reading of a packed count is that of its code, and the count lies within the band.
 -- Assumes nothing.
-use mathlib.Core.Path.{_≡_, refl, ap, _∙_}
+use mathlib.Core.Path.{_≡_, refl}
 use mathlib.Core.List.{List}
 use Prim.Native.Nat.{ℕ}
 use lib.IntN.{pos}
-use Rattle.ground.specs.Paper.{accepted, onward}
+use Rattle.ground.specs.Paper.{accepted}
 use Rattle.ground.specs.Outcome.{accept}
 use Rattle.code.specs.Meaning.{Shape, shapeOf, shapeOfNumber, sign, magnitude, error, packMeans}
 use Rattle.code.specs.Shapes.{drop-of}

@@ -6,7 +6,7 @@ use mathlib.Core.List.{List}
 use Prim.Native.Nat.{ℕ, zero, suc, _<_, _≤_}
 use native.Mathlib.Omega.{arith}
 use borrow.Author.Tests.{lt-ltb, le-ltb}
-use Rattle.ground.specs.Paper.{Paper, accepted, refused, onward}
+use Rattle.ground.specs.Paper.{accepted, refused, onward}
 use Rattle.code.specs.Meaning.{ShapeValues, signed, numberRead, shapeMeans}
 use Rattle.code.specs.Theorems.{read-fits}
 use Rattle.cadence.specs.Meaning.{lengthOf, secondsMeans}

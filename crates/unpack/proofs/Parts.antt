@@ -3,21 +3,21 @@
 use mathlib.Core.Path.{_≡_, refl, sym, ap, ap₂, _∙_, subst}
 use mathlib.Core.Bool.{Bool, true, false}
 use mathlib.Core.List.{List, _∷_}
-use Prim.Native.Nat.{ℕ, zero, suc, _+_, _*_, _-_, _/_, _^_, _<_, _≤_}
+use Prim.Native.Nat.{ℕ, zero, suc, _+_, _*_, _-_, _^_, _<_, _≤_}
 use native.Mathlib.Numerals.{add-one}
 use native.Mathlib.Omega.{arith}
 use lib.ListN.{length, length-append, length-drop, take, drop, getD, drop-of-length-le}
 use lib.Seq.{drop-cons}
-use lib.Dec.{ltb, leb, eqb}
+use lib.Dec.{ltb, eqb}
 use lib.IntN.{ℤ}
 use borrow.Author.Tests.{lt-ltb, le-ltb, le-leb, ne-eqb}
 use Rattle.ground.specs.Choice.{pick}
 use Rattle.ground.specs.Paper.{Paper, accepted, refused, mapped}
-use Rattle.code.specs.Meaning.{small, led, Parsed, found, ranOut, redundantZero, runTooLong, ShapeValues, bitsThatCount, fromBits, filled, signed}
-use Rattle.code.specs.Meaning.{leftOut, width}
+use Rattle.code.specs.Meaning.{led, Parsed, found, ranOut, redundantZero, runTooLong, ShapeValues, bitsThatCount, fromBits, filled, signed}
+use Rattle.code.specs.Meaning.{leftOut, width, onesOf}
 use Rattle.code.specs.Meaning.{field, smallFound, ledThen, parityThen, afterRun, afterSign, parse, bits, valuesOf, answerOf, positionMeans, shapeMeans}
 use Rattle.code.specs.Meaning.{numberRead, unpackMeans, dropKnown, greatestPlace, largest, longestRun}
-use Rattle.code.specs.Shapes.{Drop, none, three, below-led, Exact, parse-exact, bits-some}
+use Rattle.code.specs.Shapes.{Drop, none, three, below-led, width-is, Exact, parse-exact, bits-some}
 use Rattle.code.specs.BitLists.{allBits-drop}
 use Rattle.code.specs.Positions.{allBits-bitsThatCount}
 use Rattle.code.specs.Magnitudes.{places, magnitude-fits}
@@ -26,7 +26,7 @@ use Rattle.code.specs.Answers.{shapePaper}
 use Rattle.code.specs.Promise.{ShapePromise}
 use Rattle.code.specs.declared.ShapeAnswer.{ShapeAnswer}
 use Rattle.code.specs.declared.ShapeAnswer.the-variants as S
-use Rattle.unpack.specs.Steps.{restAnswer, zeroAnswer, Place, LedPlace}
+use Rattle.unpack.specs.Steps.{restAnswer, zeroAnswer}
 
 -- ---- fields
 
@@ -44,59 +44,59 @@ next-is l at end w e a h = omega (arith, length-drop w (drop at l), length-drop 
 
 -- ---- under a leading one
 
--- the bits left out and those that the code has
-pub record LedParts (k left : ℕ) : Type 0 where
-  pub some : 1 ≤ left
-  pub few : left ≤ 15
-  pub within : left ≤ k
-  pub narrow : k - left ≤ 16
+-- the bits that the code has and those that it leaves out
+pub record LedParts (d k w : ℕ) : Type 0 where
+  pub within : w ≤ k
+  pub narrow : w ≤ 16
+  pub left-is : k - w ≡ leftOut d k
+  pub some : 1 ≤ k - w
+  pub few : k - w ≤ 15
 
 -- at every place that is read
-pub led-parts : (d k left : ℕ) → Drop d → 4 ≤ k → k ≤ greatestPlace → left ≡ leftOut d k → LedParts k left
-led-parts d k left dr four top e =
+pub led-parts : (d k w : ℕ) → Drop d → 4 ≤ k → k ≤ greatestPlace → w ≡ width d k → LedParts d k w
+led-parts d k w dr four top e =
     let b = below-led k dr four in
-    let all : leftOut d k ≤ k = omega (arith, b .all) in
-    record { some = omega (arith, b .some); few = omega (arith, b .few); within = omega arith; narrow = omega (arith, b .half) }
+    let left : k - w ≡ leftOut d k = omega (arith, e, b .all) in
+    record {
+      within = omega (arith, e, b .all);
+      narrow = omega (arith, e, b .all, b .half);
+      left-is = left;
+      some = omega (arith, b .some);
+      few = omega (arith, b .few);
+    }
 
 -- whatever the field holds, the magnitude is inside the rule
-pub led-fits : (d s k left x : ℕ) → Drop d → s < 2 → 4 ≤ k → k ≤ greatestPlace → left ≡ leftOut d k → x < 2 ^ (k - left) → 2 ^ k + filled left x ≤ largest
-led-fits d s k left x dr hs four top e hx =
-    subst (λ (n : ℕ). x < 2 ^ (k - n) → 2 ^ k + filled n x ≤ largest) (sym e)
-    (λ h. magnitude-fits greatestPlace places d (led s k x) dr (hs, four, top, h)) hx
+pub led-fits : (d s k w x : ℕ) → Drop d → s < 2 → 4 ≤ k → k ≤ greatestPlace → w ≡ width d k → x < 2 ^ w → 2 ^ k + filled (k - w) x ≤ largest
+led-fits d s k w x dr hs four top e hx =
+    subst (λ (n : ℕ). 2 ^ k + filled n x ≤ largest) (sym (led-parts d k w dr four top e .left-is))
+    (magnitude-fits greatestPlace places d (led s k x) dr (hs, four, top, subst (λ (n : ℕ). x < 2 ^ n) e hx))
 
-module _ (l : List ℕ) (at end d s k left : ℕ) (end-is : end ≡ length l) (top : k ≤ greatestPlace) (left-is : left ≡ leftOut d k) where
+module _ (l : List ℕ) (at end d s k w : ℕ) (end-is : end ≡ length l) (top : k ≤ greatestPlace) (width-is : w ≡ width d k) where
   -- a place that is not above the greatest has its field
-  led-then : ledThen greatestPlace d s k (drop at l) ≡ field (width d k) (λ x. found (led s k x)) (drop at l)
-  led-then = ap (λ (b : Bool). pick b (field (width d k) (λ x. found (led s k x)) (drop at l)) runTooLong) (le-leb k greatestPlace top)
-
-  -- its width
-  same-width : k - left ≡ width d k
-  same-width = ap (λ (n : ℕ). k - n) left-is
+  led-then : ledThen greatestPlace d s k (drop at l) ≡ field w (λ x. found (led s k x)) (drop at l)
+  led-then =
+      ap (λ (b : Bool). pick b (field (width d k) (λ x. found (led s k x)) (drop at l)) runTooLong) (le-leb k greatestPlace top)
+      ∙ ap (λ (n : ℕ). field n (λ x. found (led s k x)) (drop at l)) (sym width-is)
 
   -- bits ran out in it
-  pub led-out : end - at < k - left → refused 9 ≡ restAnswer d end (ledThen greatestPlace d s k (drop at l))
+  pub led-out : end - at < w → refused 9 ≡ restAnswer d end (ledThen greatestPlace d s k (drop at l))
   led-out h =
-      sym (ap (restAnswer d end) (led-then
-      ∙ field-out (width d k) (λ x. found (led s k x)) (drop at l) (omega (arith, same-width, length-drop at l))))
+      sym (ap (restAnswer d end) (led-then ∙ field-out w (λ x. found (led s k x)) (drop at l) (omega (arith, length-drop at l))))
 
   -- it is there
-  pub led-there : (x lead fill error : ℕ) → at ≤ end → k - left ≤ end - at → x ≡ fromBits (take (k - left) (drop at l))
+  pub led-there : (left x lead fill error : ℕ) → left ≡ leftOut d k → at ≤ end → w ≤ end - at → x ≡ fromBits (take w (drop at l))
       → lead ≡ 2 ^ k → fill ≡ filled left x → error ≡ 2 ^ (left - 1)
-      → accepted (record { sign = s; magnitude = lead + fill; error = error; next = at + (k - left) })
+      → accepted (record { sign = s; magnitude = lead + fill; error = error; next = at + w })
       ≡ restAnswer d end (ledThen greatestPlace d s k (drop at l))
-  led-there x lead fill error a h x-is lead-is fill-is error-is =
-      let w : ℕ = width d k in
+  led-there left x lead fill error left-is a h x-is lead-is fill-is error-is =
       let y : ℕ = fromBits (take w (drop at l)) in
-      let field-is : x ≡ y = x-is ∙ ap (λ (n : ℕ). fromBits (take n (drop at l))) same-width in
-      let magnitude-is : lead + fill ≡ 2 ^ k + filled (leftOut d k) y = ap₂ (λ (m n : ℕ). m + n) lead-is (fill-is ∙ ap₂ filled left-is field-is) in
-      let last : at + (k - left) ≡ end - length (drop w (drop at l))
-      = ap (λ (n : ℕ). at + n) same-width ∙ next-is l at end w end-is a (omega (arith, same-width)) in
-      ap₂ (λ (m n : ℕ). accepted (record { sign = s; magnitude = m; error = error; next = n })) magnitude-is last
+      let rest : List ℕ = drop w (drop at l) in
+      let magnitude-is : lead + fill ≡ 2 ^ k + filled (leftOut d k) y = ap₂ (λ (m n : ℕ). m + n) lead-is (fill-is ∙ ap₂ filled left-is x-is) in
+      ap₂ (λ (m n : ℕ). accepted (record { sign = s; magnitude = m; error = error; next = n })) magnitude-is (next-is l at end w end-is a h)
       ∙ ap
-      (λ (n : ℕ). accepted (record { sign = s; magnitude = 2 ^ k + filled (leftOut d k) y; error = n; next = end - length (drop w (drop at l)) }))
+      (λ (n : ℕ). accepted (record { sign = s; magnitude = 2 ^ k + filled (leftOut d k) y; error = n; next = end - length rest }))
       (error-is ∙ ap (λ (n : ℕ). 2 ^ (n - 1)) left-is)
-      ∙ sym (ap (restAnswer d end) (led-then
-      ∙ field-there w (λ x. found (led s k x)) (drop at l) (omega (arith, same-width, length-drop at l))))
+      ∙ sym (ap (restAnswer d end) (led-then ∙ field-there w (λ x. found (led s k x)) (drop at l) (omega (arith, length-drop at l))))
 
 -- ---- under 16
 
@@ -174,6 +174,12 @@ five (suc d) s next h = refl
 pub run-is : (d end s ones n : ℕ) (l : List ℕ) → ones ≡ n
     → restAnswer d end (afterRun greatestPlace d s n l) ≡ restAnswer d end (afterRun greatestPlace d s ones l)
 run-is d end s ones n l e = ap (λ (m : ℕ). restAnswer d end (afterRun greatestPlace d s m l)) (sym e)
+
+-- the width of the field after two ones or more: "the first j+1-drop bits after the leading one"
+pub run-wide : (d drop ones p : ℕ) → Drop d → drop ≡ d → 2 ≤ ones → p < 2 → ones + 1 - drop ≡ width d (2 * ones + 1 + p)
+run-wide d drop ones p dr e two bit =
+    let run : onesOf (2 * ones + 1 + p) ≡ ones = omega arith in
+    ap₂ (λ (n m : ℕ). n + 1 - m) (sym run) e ∙ sym (width-is d (2 * ones + 1 + p) dr (omega arith))
 
 -- after a run of two ones or more, no bit is left for the parity
 pub parity-out : (l : List ℕ) (at end d s ones : ℕ) → end ≡ length l → end ≤ at → (ones ≡ 0 → ⊥) → (ones ≡ 1 → ⊥)

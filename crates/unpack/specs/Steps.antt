@@ -5,7 +5,7 @@ use mathlib.Core.List.{List}
 use Prim.Native.Nat.{ℕ, zero, suc, _-_, _<_, _≤_}
 use lib.ListN.{length}
 use Rattle.ground.specs.Paper.{Paper, accepted, refused}
-use Rattle.code.specs.Meaning.{Parsed, found, ranOut, redundantZero, runTooLong, ShapeValues, valuesOf, bitsThatCount, greatestPlace}
+use Rattle.code.specs.Meaning.{Parsed, found, ranOut, redundantZero, runTooLong, ShapeValues, valuesOf, bitsThatCount, greatestPlace, width}
 use Rattle.code.specs.Shapes.{Drop}
 
 -- the answer to what was found among so many bits
@@ -27,10 +27,11 @@ pub record Place (bytes : List ℕ) (at end d : ℕ) : Type 0 where
   pub drop-is : Drop d
 
 -- where the field under a leading one is read
-pub record LedPlace (bytes : List ℕ) (at end d s k : ℕ) : Type 0 where
+pub record LedPlace (bytes : List ℕ) (at end d s k w : ℕ) : Type 0 where
   pub end-is : end ≡ length (bitsThatCount bytes)
   pub inside : at ≤ end
   pub drop-is : Drop d
   pub sign : s < 2
   pub four : 4 ≤ k
   pub top : k ≤ greatestPlace
+  pub width-is : w ≡ width d k

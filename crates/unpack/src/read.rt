@@ -7,7 +7,6 @@ ghost use lib.ListN.{length, getD, take, drop as dropped};
 ghost use lib.Dec.{eqb};
 ghost use Rattle.ground.specs.Choice.{pick};
 ghost use Rattle.code.specs.Meaning.{bitsThatCount, parse, afterSign, afterRun, ledThen, fromBits, filled, greatestPlace, longestRun};
-ghost use Rattle.code.specs.Shapes.{Drop};
 ghost use Rattle.code.specs.Answers.{shapePaper};
 ghost use Rattle.unpack.specs.Steps.{restAnswer, zeroAnswer, Place, LedPlace};
 
@@ -90,13 +89,14 @@ fn after_run(bytes: &[u8], at: u64, end: u64, drop: u8, sign: u32, ones: u32) ->
         return small(bytes, at, end, drop, sign);
     }
     if ones == 1 {
-        return led(bytes, at, end, drop, sign, 4);
+        return led(bytes, at, end, drop, sign, 4, 3 - code::wide(drop));
     }
     if end <= at {
         return ShapeAnswer::Refused(Refusal::RanOut);
     }
     let parity = bit_wide(bytes, at);
-    led(bytes, at + 1, end, drop, sign, 2 * ones + 1 + parity)
+    let width = ones + 1 - code::wide(drop);
+    led(bytes, at + 1, end, drop, sign, 2 * ones + 1 + parity, width)
 }
 
 // A magnitude under 16: its field, drop 0's redundant zero and drop 3's 5.
@@ -137,17 +137,16 @@ fn small_zero(drop: u8, sign: u32, next: u64) -> ShapeAnswer
     }
 }
 
-// A magnitude with its leading one at a place: the field below it, and what is left out filled in.
-fn led(bytes: &[u8], at: u64, end: u64, drop: u8, sign: u32, place: u32) -> ShapeAnswer
-    requires { ⌜ LedPlace (now bytes) at end drop sign place ⌝ }
+// A magnitude with its leading one at a place: the field below it, of so many bits, and what is left out filled in.
+fn led(bytes: &[u8], at: u64, end: u64, drop: u8, sign: u32, place: u32, width: u32) -> ShapeAnswer
+    requires { ⌜ LedPlace (now bytes) at end drop sign place width ⌝ }
     ensures { λ r. ⌜ shapePaper r ≡ restAnswer drop end (ledThen greatestPlace drop sign place (dropped at (bitsThatCount (now (bytes .entry))))) ⌝ }
 {
-    let left = code::left_out(place, drop);
-    let width = place - left;
     if end - at < width as u64 {
         return ShapeAnswer::Refused(Refusal::RanOut);
     }
     let x = field(bytes, at, width);
+    let left = place - width;
     ShapeAnswer::Shape {
         sign,
         magnitude: code::power(place) + fill(x, left),

@@ -9,7 +9,6 @@ use Rattle.code.specs.Shapes.{drop-of}
 use Rattle.pack.proofs.Writing.{pack-is, pack-refuses}
 use borrow.Author.Tests.{leb-true}
 use Rattle.ground.specs.Questions.{both-hold}
-use native.Mathlib.Omega.{arith}
 use borrow.Author.Needs.{needs}
 use Rattle.pack.proofs.pack.Statement.{statement}
 use Rattle.pack.proofs.pack.Tie as tie

@@ -4,8 +4,6 @@ use Rattle.lines.proofs.Answering.{none-yet, in-range}
 use borrow.Author.Needs.{needs}
 use Rattle.lines.proofs.answer.is_sound.Statement.{statement}
 use Rattle.lines.proofs.answer.is_sound.Tie as tie
-use Rattle.lines.proofs.answer.is_sound.Reads as reads
-use Rattle.lines.proofs.answer.is_sound.Lts as lts
 
 returns-2 : tie.Need-returns-2
 returns-2 c = none-yet (c .before .before .before .args .line) (c .before .before .if1 .left) (search needs)

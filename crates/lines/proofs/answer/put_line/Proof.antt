@@ -8,12 +8,6 @@ use Rattle.lines.proofs.Answering.{sound-value, known-small, answer-goo
 use borrow.Author.Needs.{needs}
 use Rattle.lines.proofs.answer.put_line.Statement.{statement}
 use Rattle.lines.proofs.answer.put_line.Tie as tie
-use Rattle.lines.proofs.answer.put_line.Reads as reads
-use Rattle.lines.proofs.answer.put_line.Lts as lts
-use Rattle.lines.proofs.answer.is_sound.Reads as is-sound-reads
-use Rattle.lines.proofs.answer.number_of.Reads as number-of-reads
-use Rattle.lines.proofs.text.put_number.Reads as put-number-reads
-use Rattle.lines.proofs.text.put_text.Reads as put-text-reads
 
 number-of-requires : tie.Need-number-of-requires
 number-of-requires c κs =

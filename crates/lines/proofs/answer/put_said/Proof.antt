@@ -4,9 +4,6 @@ use Rattle.lines.proofs.Answering.{newline-says, other-says}
 use borrow.Author.Needs.{needs}
 use Rattle.lines.proofs.answer.put_said.Statement.{statement}
 use Rattle.lines.proofs.answer.put_said.Tie as tie
-use Rattle.lines.proofs.answer.put_said.Reads as reads
-use Rattle.lines.proofs.answer.put_said.Lts as lts
-use Rattle.lines.proofs.answer.put_line.Reads as put-line-reads
 
 put-line-requires : tie.Need-put-line-requires
 put-line-requires c κs = c .before .before .before .pre .1 (c .before .if1 .taken)

@@ -5,10 +5,6 @@ use Rattle.lines.proofs.Texts.{decimal-few, decimal-put}
 use borrow.Author.Needs.{needs}
 use Rattle.lines.proofs.text.put_decimal.Statement.{statement}
 use Rattle.lines.proofs.text.put_decimal.Tie as tie
-use Rattle.lines.proofs.text.put_decimal.Reads as reads
-use Rattle.lines.proofs.text.put_decimal.Lts as lts
-use Rattle.io.proofs.decimal.Reads as decimal-reads
-use Rattle.lines.proofs.text.put_text.Reads as put-text-reads
 
 put-text-requires : tie.Need-put-text-requires
 put-text-requires c κs =

@@ -12,11 +12,6 @@ use Rattle.lines.proofs.Texts.{number-put}
 use borrow.Author.Needs.{needs}
 use Rattle.lines.proofs.text.put_number.Statement.{statement}
 use Rattle.lines.proofs.text.put_number.Tie as tie
-use Rattle.lines.proofs.text.put_number.Reads as reads
-use Rattle.lines.proofs.text.put_number.Lts as lts
-use Rattle.lines.proofs.text.put_byte.Reads as put-byte-reads
-use Rattle.lines.proofs.text.put_spaced.Reads as put-spaced-reads
-use Rattle.lines.proofs.text.put_value.Reads as put-value-reads
 
 put-spaced-requires : tie.Need-put-spaced-requires
 put-spaced-requires c κs =

@@ -7,10 +7,6 @@ use Rattle.lines.proofs.Texts.{spaced-put}
 use borrow.Author.Needs.{needs}
 use Rattle.lines.proofs.text.put_spaced.Statement.{statement}
 use Rattle.lines.proofs.text.put_spaced.Tie as tie
-use Rattle.lines.proofs.text.put_spaced.Reads as reads
-use Rattle.lines.proofs.text.put_spaced.Lts as lts
-use Rattle.lines.proofs.text.put_byte.Reads as put-byte-reads
-use Rattle.lines.proofs.text.put_code.Reads as put-code-reads
 
 returns : tie.Need-returns
 returns c =

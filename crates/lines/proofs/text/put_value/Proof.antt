@@ -8,12 +8,6 @@ use Rattle.lines.proofs.Texts.{few-digits}
 use borrow.Author.Needs.{needs}
 use Rattle.lines.proofs.text.put_value.Statement.{statement}
 use Rattle.lines.proofs.text.put_value.Tie as tie
-use Rattle.lines.proofs.text.put_value.Reads as reads
-use Rattle.lines.proofs.text.put_value.Lts as lts
-use Rattle.code.proofs.magnitude.Reads as magnitude-reads
-use Rattle.code.proofs.sign.Reads as sign-reads
-use Rattle.lines.proofs.text.put_byte.Reads as put-byte-reads
-use Rattle.lines.proofs.text.put_decimal.Reads as put-decimal-reads
 
 put-decimal-requires : tie.Need-put-decimal-requires
 put-decimal-requires c κs =

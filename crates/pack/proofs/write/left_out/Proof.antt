@@ -1,9 +1,9 @@
--- `code::left_out` meets its contract: one bit and the drop at place 4, half of any other place and the drop.
+-- `pack::write::left_out` meets its contract: one bit and the drop at place 4, half of any other place and the drop.
 -- Assumes nothing.
 use borrow.Author.Needs.{needs}
-use Rattle.code.proofs.Numbers.{left-four, left-other}
-use Rattle.code.proofs.left_out.Statement.{statement}
-use Rattle.code.proofs.left_out.Tie as tie
+use Rattle.pack.proofs.Writing.{left-four, left-other}
+use Rattle.pack.proofs.write.left_out.Statement.{statement}
+use Rattle.pack.proofs.write.left_out.Tie as tie
 
 returns : tie.Need-returns
 returns c = left-four _ _ _ (c .before .if1 .taken) (c .wide .ensures)
