@@ -4,7 +4,6 @@ mod byte;
 mod printing;
 mod text;
 
-ghost use mathlib.Core.Path.{_≡_};
 ghost use Rattle.lines.specs.Promise.{AnswerPromise, FreshPromise, HeaderPromise, RunPromise, TakenPromise};
 use answer::may_go;
 use answer::next_line;

@@ -44,9 +44,6 @@ fn next_of(answer: Unpacked, at: u64) -> u64 {
             say::more(next);
             next
         }
-        Unpacked::OutsideRule => at,
-        Unpacked::RanOut => at,
-        Unpacked::RedundantZero => at,
-        Unpacked::RunTooLong => at,
+        Unpacked::Refused(_) => at,
     }
 }

@@ -5,8 +5,6 @@ use Rattle.code.proofs.Numbers.{minus-fits}
 use borrow.Author.Needs.{needs}
 use Rattle.lines.proofs.answer.number_of.Statement.{statement}
 use Rattle.lines.proofs.answer.number_of.Tie as tie
-use Rattle.lines.proofs.answer.number_of.Reads as reads
-use Rattle.lines.proofs.answer.number_of.Lts as lts
 
 sub-result : tie.Need-sub-result
 sub-result c = minus-fits _ (c .before .before .pre)

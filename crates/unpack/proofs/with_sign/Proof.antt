@@ -1,9 +1,9 @@
--- `unpack::read::with_sign` meets its contract: a magnitude inside the rule fits, negated or not.
+-- `unpack::with_sign` meets its contract: a magnitude inside the rule fits, negated or not.
 -- Assumes nothing.
 use borrow.Author.Needs.{needs}
 use Rattle.code.proofs.Numbers.{plus, minus, minus-fits}
-use Rattle.unpack.proofs.read.with_sign.Statement.{statement}
-use Rattle.unpack.proofs.read.with_sign.Tie as tie
+use Rattle.unpack.proofs.with_sign.Statement.{statement}
+use Rattle.unpack.proofs.with_sign.Tie as tie
 
 sub-result : tie.Need-sub-result
 sub-result c = minus-fits _ (c .before .pre)
