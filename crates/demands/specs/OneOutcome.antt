@@ -23,7 +23,7 @@ pub use Rattle.format.specs.OneOutcome.{code16-number-one, code8-number-one, co
 -- the cadence
 pub use Rattle.cadence.specs.OneOutcome.{seconds-one, beginning-one, ending-one, length-number-one, level-number-one}
 -- readings and rates
-pub use Rattle.rate.specs.OneOutcome.{reading-one, rate-one, reading-number-one, rate-number-one, refusal-number-one}
+pub use Rattle.rate.specs.OneOutcome.{reading-one, rate-one, reading-number-one, rate-number-one}
 -- two pages of counters
 pub use Rattle.pages.specs.OneOutcome.{sized-one, clear-one, count-one, take-one}
 -- histogram memory
