@@ -57,7 +57,7 @@ pub fn rate(bytes: &[u8], at: u64, drop: u8, level: u8) -> RateAnswer
     let ReadingAnswer::Counts { reading, next } = answer else {
         return RateAnswer::Refused(reason(answer));
     };
-    let length = cadence::seconds(level);
+    let length = cadence::level_seconds(level);
     let Length::Seconds(seconds) = length else {
         return RateAnswer::OutOfRange;
     };

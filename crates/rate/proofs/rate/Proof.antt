@@ -27,7 +27,7 @@ returns-2 c =
     let n = at-answer .answer .given in
     record {
       answer = no-level (now (a .bytes)) (a .at) (a .drop) (a .level) (n .0 .0) (n .0 .1 .0)
-          (at-reading .reading .ensures) (n .1) (at-seconds .seconds .ensures) (c .enum-told2 .given .1);
+          (at-reading .reading .ensures) (n .1) (at-seconds .level-seconds .ensures) (c .enum-told2 .given .1);
     }
 
 returns-3 : tie.Need-returns-3
@@ -42,7 +42,7 @@ returns-3 c =
     let l = at-length .length .given in
     record {
       answer = forms (now (a .bytes)) (a .at) (a .drop) (a .level) (n .0 .0) (n .0 .1 .0)
-          (at-reading .reading .ensures) (n .1) (at-seconds .seconds .ensures) (l .0 .0) _ (l .1) (c .divided .ensures);
+          (at-reading .reading .ensures) (n .1) (at-seconds .level-seconds .ensures) (l .0 .0) _ (l .1) (c .divided .ensures);
     }
 
 pub rate-spec : {M : Type 1} → statement M

@@ -1,4 +1,4 @@
--- `cadence::seconds` meets its contract: each arm answers the length that the list has at its level, and every other level is over 7.
+-- `cadence::level_seconds` meets its contract: each arm answers the length that the list has at its level, and every other level is over 7.
 -- Assumes nothing.
 use mathlib.Core.Path.{_≡_, refl}
 use Prim.Native.Nat.{ℕ, suc, _≤_, zero-le}
@@ -8,8 +8,8 @@ use Rattle.ground.specs.Paper.{accepted}
 use Rattle.cadence.specs.declared.Length.the-variants.{Seconds}
 use Rattle.cadence.specs.Meaning.{secondsMeans}
 use Rattle.cadence.specs.Promise.{SecondsPromise}
-use Rattle.cadence.proofs.seconds.Statement.{statement}
-use Rattle.cadence.proofs.seconds.Tie as tie
+use Rattle.cadence.proofs.level_seconds.Statement.{statement}
+use Rattle.cadence.proofs.level_seconds.Tie as tie
 
 -- a number that is at least n and not n is past it
 past : {n x : ℕ} → n ≤ x → (x ≡ n → ⊥) → suc n ≤ x
@@ -52,5 +52,5 @@ returns-9 c =
           (r .0 .0 .0 .1)) (r .0 .0 .1)) (r .0 .1)) (r .1)));
     }
 
-pub seconds-spec : {M : Type 1} → statement M
-seconds-spec = tie.close (tie.spec returns returns-2 returns-3 returns-4 returns-5 returns-6 returns-7 returns-8 returns-9)
+pub level-seconds-spec : {M : Type 1} → statement M
+level-seconds-spec = tie.close (tie.spec returns returns-2 returns-3 returns-4 returns-5 returns-6 returns-7 returns-8 returns-9)
