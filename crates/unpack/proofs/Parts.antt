@@ -189,13 +189,15 @@ parity-out l at end d s (suc zero) e h a b = absurd (b refl)
 parity-out l at end d s (suc (suc ones)) e h a b = rw (drop-of-length-le l {i = at} (omega arith))
 
 -- after a run of two ones or more, the parity and its field
-pub parity-there : (l : List ℕ) (at end d s ones p : ℕ) → end ≡ length l → at < end → (ones ≡ 0 → ⊥) → (ones ≡ 1 → ⊥) → p ≡ getD l at 0
-    → restAnswer d end (ledThen greatestPlace d s (2 * ones + 1 + p) (drop (at + 1) l)) ≡ restAnswer d end (afterRun greatestPlace d s ones (drop at l))
-parity-there l at end d s zero p e h a b q = absurd (a refl)
-parity-there l at end d s (suc zero) p e h a b q = absurd (b refl)
-parity-there l at end d s (suc (suc ones)) p e h a b q =
+pub parity-there : (l : List ℕ) (at end d s ones p : ℕ) {r : Paper ShapeValues} → end ≡ length l → at < end → (ones ≡ 0 → ⊥) → (ones ≡ 1 → ⊥)
+    → p ≡ getD l at 0 → r ≡ restAnswer d end (ledThen greatestPlace d s (2 * ones + 1 + p) (drop (at + 1) l))
+    → r ≡ restAnswer d end (afterRun greatestPlace d s ones (drop at l))
+parity-there l at end d s zero p e h a b q r = absurd (a refl)
+parity-there l at end d s (suc zero) p e h a b q r = absurd (b refl)
+parity-there l at end d s (suc (suc ones)) p e h a b q r =
     let j : ℕ = suc (suc ones) in
-    ap₂ (λ (k : List ℕ) (n : ℕ). restAnswer d end (ledThen greatestPlace d s (2 * j + 1 + n) k)) (ap (λ (n : ℕ). drop n l) (add-one at)) q
+    r
+    ∙ ap₂ (λ (k : List ℕ) (n : ℕ). restAnswer d end (ledThen greatestPlace d s (2 * j + 1 + n) k)) (ap (λ (n : ℕ). drop n l) (add-one at)) q
     ∙ ap (λ (k : List ℕ). restAnswer d end (parityThen greatestPlace d s j k)) (sym (drop-cons l at 0 (omega arith)))
 
 -- ---- the run of ones
@@ -287,8 +289,10 @@ module _ (l : List ℕ) (at end d b : ℕ) (end-is : end ≡ length l) (inside :
   sign-there s h more q r =
       let o = one-here l at end b end-is inside bit h in
       let two : suc (at + 1) ≡ at + 2 = omega arith in
-      r ∙ from-bits (o .1 ∙ ap (λ (k : List ℕ). suc (o .0) ∷ k)
-      (drop-cons l (at + 1) 0 (omega arith) ∙ ap₂ _∷_ (sym q) (ap (λ (n : ℕ). drop n l) two)))
+      let rest : drop (at + 1) l ≡ s ∷ drop (at + 2) l
+      = drop-cons l (at + 1) 0 (omega arith) ∙ ap₂ _∷_ (sym q) (ap (λ (n : ℕ). drop n l) two) in
+      let first : drop at l ≡ suc (o .0) ∷ (s ∷ drop (at + 2) l) = o .1 ∙ ap (λ (k : List ℕ). suc (o .0) ∷ k) rest in
+      r ∙ from-bits first
 
 -- ---- the whole call
 

@@ -44,7 +44,8 @@ sub-power : tie.Need-sub-power
 sub-power c =
     let at-field = c .before .before in
     let p = at-field .before .before .before .pre in
-    led-parts _ _ _ (p .drop-is) (p .four) (p .top) (p .width-is) .some
+    let parts = led-parts _ _ _ (p .drop-is) (p .four) (p .top) (p .width-is) in
+    omega (arith, parts .some)
 
 returns-2 : tie.Need-returns-2
 returns-2 c =
