@@ -172,6 +172,7 @@ module _ (byte room number top : ℕ) (small-byte : byte < 256) (in-byte : room 
       subst (λ (n : ℕ). n < 256) (sym whole)
       (field-lt (8 - room) room 8 (high-lt (8 - room) room 8 small-byte (omega arith)) fits (omega arith))
 
+  -- with the first bits of the byte and those of the number
   pub filled-bits : byteBits (top + number) ≡ take (8 - room) (byteBits byte) ++ toBits room number
   unfolding byteBits
   filled-bits =

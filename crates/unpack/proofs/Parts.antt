@@ -233,6 +233,7 @@ module _ (l : List ℕ) (here end b : ℕ) (end-is : end ≡ length l) (inside :
     unfolding afterSign
     run-on h = ap (afterSign greatestPlace d s ones) (one-here h .1)
 
+    -- a one that is not one too many goes on with it
     pub run-goes-on : (b ≡ 0 → ⊥) → ones < longestRun greatestPlace
         → afterSign greatestPlace d s ones (drop here l) ≡ afterSign greatestPlace d s (ones + 1) (drop (here + 1) l)
     run-goes-on h few =
@@ -240,6 +241,7 @@ module _ (l : List ℕ) (here end b : ℕ) (end-is : end ≡ length l) (inside :
         ∙ ap (λ (t : Bool). pick t (afterSign greatestPlace d s (suc ones) (drop (here + 1) l)) runTooLong) (lt-ltb ones (longestRun greatestPlace) few)
         ∙ ap (λ (n : ℕ). afterSign greatestPlace d s n (drop (here + 1) l)) (sym (add-one ones))
 
+    -- any other is one too many
     pub run-too-long : (b ≡ 0 → ⊥) → longestRun greatestPlace ≤ ones → afterSign greatestPlace d s ones (drop here l) ≡ runTooLong
     run-too-long h many =
         run-on h
