@@ -44,31 +44,11 @@ next-is l at end w e a h = omega (arith, length-drop w (drop at l), length-drop 
 
 -- ---- under a leading one
 
--- the bits that the code has and those that it leaves out
-pub record LedParts (d k w : ℕ) : Type 0 where
-  pub within : w ≤ k
-  pub narrow : w ≤ 16
-  pub left-is : k - w ≡ leftOut d k
-  pub some : 1 ≤ k - w
-  pub few : k - w ≤ 15
-
--- at every place that is read
-pub led-parts : (d k w : ℕ) → Drop d → 4 ≤ k → k ≤ greatestPlace → w ≡ width d k → LedParts d k w
-led-parts d k w dr four top e =
-    let b = below-led k dr four in
-    let left : k - w ≡ leftOut d k = omega (arith, e, b .all) in
-    record {
-      within = omega (arith, e, b .all);
-      narrow = omega (arith, e, b .all, b .half);
-      left-is = left;
-      some = omega (arith, b .some);
-      few = omega (arith, b .few);
-    }
-
 -- whatever the field holds, the magnitude is inside the rule
 pub led-fits : (d s k w x : ℕ) → Drop d → s < 2 → 4 ≤ k → k ≤ greatestPlace → w ≡ width d k → x < 2 ^ w → 2 ^ k + filled (k - w) x ≤ largest
 led-fits d s k w x dr hs four top e hx =
-    subst (λ (n : ℕ). 2 ^ k + filled n x ≤ largest) (sym (led-parts d k w dr four top e .left-is))
+    let left : leftOut d k ≡ k - w = omega (arith, e, below-led k dr four .all) in
+    subst (λ (n : ℕ). 2 ^ k + filled n x ≤ largest) left
     (magnitude-fits greatestPlace places d (led s k x) dr (hs, four, top, subst (λ (n : ℕ). x < 2 ^ n) e hx))
 
 module _ (l : List ℕ) (at end d s k w : ℕ) (end-is : end ≡ length l) (top : k ≤ greatestPlace) (width-is : w ≡ width d k) where
