@@ -1,4 +1,4 @@
--- Laws of numbers as the machine computes them: a power of two by a shift, a bit of a byte, a magnitude with its sign. Writing, reading and the lines cite them.
+-- Laws of numbers as the machine computes them: a power of two by a shift, a bit of a byte, a magnitude with its sign; for pack, unpack and lines.
 -- Assumes nothing.
 use mathlib.Core.Path.{_≡_, refl, sym, ap, _∙_, subst}
 use mathlib.Core.Bool.{Bool}

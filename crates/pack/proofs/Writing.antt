@@ -172,6 +172,7 @@ module _ (byte room number top : ℕ) (small-byte : byte < 256) (in-byte : room 
       subst (λ (n : ℕ). n < 256) (sym whole)
       (field-lt (8 - room) room 8 (high-lt (8 - room) room 8 small-byte (omega arith)) fits (omega arith))
 
+  -- with the first bits of the byte and those of the number
   pub filled-bits : byteBits (top + number) ≡ take (8 - room) (byteBits byte) ++ toBits room number
   unfolding byteBits
   filled-bits =
@@ -351,13 +352,6 @@ module _ (d s m k left x : ℕ) (place : k ≡ leading m) (left-is : left ≡ le
   -- its field
   same-field : toBits (k - left) x ≡ toBits (width d k) (m % 2 ^ k / 2 ^ leftOut d k)
   same-field = ap₂ toBits (ap (λ (n : ℕ). k - n) left-is) (x-is ∙ ap (λ (n : ℕ). m % 2 ^ k / 2 ^ n) left-is)
-
-  -- the bits that it leaves out and those that it has
-  pub parts : Drop d → 4 ≤ k → k ≤ greatestPlace → (left ≤ k) × (left < 32) × (onesOf k + (1 + (k - left)) ≤ 30)
-  parts dr four top =
-      let b = below-led k dr four in
-      let all : leftOut d k ≤ k = omega (arith, b .all) in
-      (omega arith, omega arith, omega (arith, b .half))
 
   -- it lies in its width
   pub field-fits : Drop d → 4 ≤ k → x < 2 ^ (k - left)

@@ -44,31 +44,11 @@ next-is l at end w e a h = omega (arith, length-drop w (drop at l), length-drop 
 
 -- ---- under a leading one
 
--- the bits that the code has and those that it leaves out
-pub record LedParts (d k w : ℕ) : Type 0 where
-  pub within : w ≤ k
-  pub narrow : w ≤ 16
-  pub left-is : k - w ≡ leftOut d k
-  pub some : 1 ≤ k - w
-  pub few : k - w ≤ 15
-
--- at every place that is read
-pub led-parts : (d k w : ℕ) → Drop d → 4 ≤ k → k ≤ greatestPlace → w ≡ width d k → LedParts d k w
-led-parts d k w dr four top e =
-    let b = below-led k dr four in
-    let left : k - w ≡ leftOut d k = omega (arith, e, b .all) in
-    record {
-      within = omega (arith, e, b .all);
-      narrow = omega (arith, e, b .all, b .half);
-      left-is = left;
-      some = omega (arith, b .some);
-      few = omega (arith, b .few);
-    }
-
 -- whatever the field holds, the magnitude is inside the rule
 pub led-fits : (d s k w x : ℕ) → Drop d → s < 2 → 4 ≤ k → k ≤ greatestPlace → w ≡ width d k → x < 2 ^ w → 2 ^ k + filled (k - w) x ≤ largest
 led-fits d s k w x dr hs four top e hx =
-    subst (λ (n : ℕ). 2 ^ k + filled n x ≤ largest) (sym (led-parts d k w dr four top e .left-is))
+    let left : leftOut d k ≡ k - w = omega (arith, e, below-led k dr four .all) in
+    subst (λ (n : ℕ). 2 ^ k + filled n x ≤ largest) left
     (magnitude-fits greatestPlace places d (led s k x) dr (hs, four, top, subst (λ (n : ℕ). x < 2 ^ n) e hx))
 
 module _ (l : List ℕ) (at end d s k w : ℕ) (end-is : end ≡ length l) (top : k ≤ greatestPlace) (width-is : w ≡ width d k) where
@@ -189,13 +169,15 @@ parity-out l at end d s (suc zero) e h a b = absurd (b refl)
 parity-out l at end d s (suc (suc ones)) e h a b = rw (drop-of-length-le l {i = at} (omega arith))
 
 -- after a run of two ones or more, the parity and its field
-pub parity-there : (l : List ℕ) (at end d s ones p : ℕ) → end ≡ length l → at < end → (ones ≡ 0 → ⊥) → (ones ≡ 1 → ⊥) → p ≡ getD l at 0
-    → restAnswer d end (ledThen greatestPlace d s (2 * ones + 1 + p) (drop (at + 1) l)) ≡ restAnswer d end (afterRun greatestPlace d s ones (drop at l))
-parity-there l at end d s zero p e h a b q = absurd (a refl)
-parity-there l at end d s (suc zero) p e h a b q = absurd (b refl)
-parity-there l at end d s (suc (suc ones)) p e h a b q =
+pub parity-there : (l : List ℕ) (at end d s ones p : ℕ) {r : Paper ShapeValues} → end ≡ length l → at < end → (ones ≡ 0 → ⊥) → (ones ≡ 1 → ⊥)
+    → p ≡ getD l at 0 → r ≡ restAnswer d end (ledThen greatestPlace d s (2 * ones + 1 + p) (drop (at + 1) l))
+    → r ≡ restAnswer d end (afterRun greatestPlace d s ones (drop at l))
+parity-there l at end d s zero p e h a b q r = absurd (a refl)
+parity-there l at end d s (suc zero) p e h a b q r = absurd (b refl)
+parity-there l at end d s (suc (suc ones)) p e h a b q r =
     let j : ℕ = suc (suc ones) in
-    ap₂ (λ (k : List ℕ) (n : ℕ). restAnswer d end (ledThen greatestPlace d s (2 * j + 1 + n) k)) (ap (λ (n : ℕ). drop n l) (add-one at)) q
+    r
+    ∙ ap₂ (λ (k : List ℕ) (n : ℕ). restAnswer d end (ledThen greatestPlace d s (2 * j + 1 + n) k)) (ap (λ (n : ℕ). drop n l) (add-one at)) q
     ∙ ap (λ (k : List ℕ). restAnswer d end (parityThen greatestPlace d s j k)) (sym (drop-cons l at 0 (omega arith)))
 
 -- ---- the run of ones
@@ -231,6 +213,7 @@ module _ (l : List ℕ) (here end b : ℕ) (end-is : end ≡ length l) (inside :
     unfolding afterSign
     run-on h = ap (afterSign greatestPlace d s ones) (one-here h .1)
 
+    -- a one that is not one too many goes on with it
     pub run-goes-on : (b ≡ 0 → ⊥) → ones < longestRun greatestPlace
         → afterSign greatestPlace d s ones (drop here l) ≡ afterSign greatestPlace d s (ones + 1) (drop (here + 1) l)
     run-goes-on h few =
@@ -238,6 +221,7 @@ module _ (l : List ℕ) (here end b : ℕ) (end-is : end ≡ length l) (inside :
         ∙ ap (λ (t : Bool). pick t (afterSign greatestPlace d s (suc ones) (drop (here + 1) l)) runTooLong) (lt-ltb ones (longestRun greatestPlace) few)
         ∙ ap (λ (n : ℕ). afterSign greatestPlace d s n (drop (here + 1) l)) (sym (add-one ones))
 
+    -- any other is one too many
     pub run-too-long : (b ≡ 0 → ⊥) → longestRun greatestPlace ≤ ones → afterSign greatestPlace d s ones (drop here l) ≡ runTooLong
     run-too-long h many =
         run-on h
@@ -287,8 +271,10 @@ module _ (l : List ℕ) (at end d b : ℕ) (end-is : end ≡ length l) (inside :
   sign-there s h more q r =
       let o = one-here l at end b end-is inside bit h in
       let two : suc (at + 1) ≡ at + 2 = omega arith in
-      r ∙ from-bits (o .1 ∙ ap (λ (k : List ℕ). suc (o .0) ∷ k)
-      (drop-cons l (at + 1) 0 (omega arith) ∙ ap₂ _∷_ (sym q) (ap (λ (n : ℕ). drop n l) two)))
+      let rest : drop (at + 1) l ≡ s ∷ drop (at + 2) l
+      = drop-cons l (at + 1) 0 (omega arith) ∙ ap₂ _∷_ (sym q) (ap (λ (n : ℕ). drop n l) two) in
+      let first : drop at l ≡ suc (o .0) ∷ (s ∷ drop (at + 2) l) = o .1 ∙ ap (λ (k : List ℕ). suc (o .0) ∷ k) rest in
+      r ∙ from-bits first
 
 -- ---- the whole call
 

@@ -9,6 +9,7 @@ use Rattle.code.specs.Shapes.{drop-of}
 use Rattle.pack.proofs.Writing.{pack-is, pack-refuses}
 use borrow.Author.Tests.{leb-true}
 use Rattle.ground.specs.Questions.{both-hold}
+use native.Mathlib.Omega.{arith}
 use borrow.Author.Needs.{needs}
 use Rattle.pack.proofs.pack.Statement.{statement}
 use Rattle.pack.proofs.pack.Tie as tie
@@ -19,7 +20,8 @@ code-requires c κs =
     let at-rule = at-if .before in
     let at-size = at-rule .before in
     let t = both-hold {a = dropKnown (at-size .before .before .args .drop)} (sym (at-rule .in-rule .ensures) ∙ at-if .if1 .taken) in
-    (drop-of _ (t .0), c .sign .ensures .bit, leb-true (at-size .magnitude .result) largest (t .1))
+    let small = leb-true (at-size .magnitude .result) largest (t .1) in
+    (drop-of _ (t .0), c .sign .ensures .bit, omega arith)
 
 returns : tie.Need-returns
 returns c =

@@ -1,26 +1,23 @@
 -- `pack::write::led` meets its contract: after the run of ones stand parity and field, of 16 to 31 the field alone.
 -- Assumes nothing.
-use mathlib.Core.Path.{refl}
 use native.Mathlib.Omega.{arith}
 use borrow.Author.Needs.{needs}
-use Rattle.pack.proofs.Writing.{parts, field-fits, four-holds, led-holds}
+use Rattle.code.specs.Shapes.{below-led}
+use Rattle.pack.proofs.Writing.{field-fits, four-holds, led-holds}
 use Rattle.pack.proofs.write.led.Statement.{statement}
 use Rattle.pack.proofs.write.led.Tie as tie
 
 sub-width : tie.Need-sub-width
 sub-width c =
     let k = c .before .leading in
-    let start = c .before .before in
-    let a = start .args in
-    parts (a .drop) (a .sign) (a .m) (k .result) _ _ (k .ensures .0) (c .left-out .ensures) refl (start .pre .0) (k .ensures .1) (k .ensures .2) .0
+    let b = below-led (k .result) (c .before .before .pre .0) (k .ensures .1) in
+    omega (arith, b .all, c .left-out .ensures)
 
 below-requires : tie.Need-below-requires
 below-requires c κs =
     let k = c .before .leading in
-    let start = c .before .before in
-    let a = start .args in
-    let p = parts (a .drop) (a .sign) (a .m) (k .result) _ _ (k .ensures .0) (c .left-out .ensures) refl (start .pre .0) (k .ensures .1) (k .ensures .2) in
-    (omega (arith, k .ensures .2), p .1)
+    let b = below-led (k .result) (c .before .before .pre .0) (k .ensures .1) in
+    (omega (arith, k .ensures .2), omega (arith, b .few, k .ensures .2, c .left-out .ensures))
 
 coded-requires : tie.Need-coded-requires
 coded-requires c κs =
@@ -29,13 +26,9 @@ coded-requires c κs =
     let k = at-left .before .leading in
     let start = at-left .before .before in
     let a = start .args in
-    let p = parts (a .drop) (a .sign) (a .m) (k .result) _ _ (k .ensures .0) (at-left .left-out .ensures) refl (start .pre .0) (k .ensures .1)
-    (k .ensures .2) in (
-      start .pre .1,
-      field-fits (a .drop) (a .sign) (a .m) (k .result) _ _ (k .ensures .0) (at-left .left-out .ensures) (at-below .below .ensures) (start .pre .0)
-          (k .ensures .1),
-      omega (arith, p .2, c .if1 .taken),
-    )
+    let field = field-fits (a .drop) (a .sign) (a .m) (k .result) _ _ (k .ensures .0) (at-left .left-out .ensures) (at-below .below .ensures)
+    (start .pre .0) (k .ensures .1) in
+    (start .pre .1, field, omega (arith, c .if1 .taken))
 
 returns : tie.Need-returns
 returns c =
@@ -54,24 +47,17 @@ join-requires c κs =
     let k = at-left .before .leading in
     let start = at-left .before .before in
     let a = start .args in
-    let p = parts (a .drop) (a .sign) (a .m) (k .result) _ _ (k .ensures .0) (at-left .left-out .ensures) refl (start .pre .0) (k .ensures .1)
-    (k .ensures .2) in (
-      omega arith,
-      field-fits (a .drop) (a .sign) (a .m) (k .result) _ _ (k .ensures .0) (at-left .left-out .ensures) (at-below .below .ensures) (start .pre .0)
-          (k .ensures .1),
-      omega (arith, p .2),
-    )
+    let field = field-fits (a .drop) (a .sign) (a .m) (k .result) _ _ (k .ensures .0) (at-left .left-out .ensures) (at-below .below .ensures)
+    (start .pre .0) (k .ensures .1) in
+    (omega arith, field, omega (arith, k .ensures .2))
 
 coded-requires-2 : tie.Need-coded-requires-2
 coded-requires-2 c κs =
-    let at-below = c .before .before in
-    let at-left = at-below .before in
+    let at-left = c .before .before .before in
     let k = at-left .before .leading in
     let start = at-left .before .before in
-    let a = start .args in
-    let p = parts (a .drop) (a .sign) (a .m) (k .result) _ _ (k .ensures .0) (at-left .left-out .ensures) refl (start .pre .0) (k .ensures .1)
-    (k .ensures .2) in
-    (start .pre .1, c .join .ensures .1, p .2)
+    let b = below-led (k .result) (start .pre .0) (k .ensures .1) in
+    (start .pre .1, c .join .ensures .1, omega (arith, b .half, k .ensures .2, at-left .left-out .ensures))
 
 returns-2 : tie.Need-returns-2
 returns-2 c =

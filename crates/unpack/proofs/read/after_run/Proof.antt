@@ -54,9 +54,8 @@ returns-4 c =
     let at-three = at-bit .before in
     let at-two = at-three .before in
     let at-one = at-two .before in
-    c .led2 .ensures
-    ∙ parity-there _ _ _ _ _ _ _ (at-one .before .before .pre .0 .end-is) (at-three .if3 .left) (at-one .if1 .left) (at-two .if2 .left)
-    (at-bit .bit-wide .ensures .0)
+    parity-there _ _ _ _ _ _ _ (at-one .before .before .pre .0 .end-is) (at-three .if3 .left) (at-one .if1 .left) (at-two .if2 .left)
+    (at-bit .bit-wide .ensures .0) (c .led2 .ensures)
 
 pub after-run-spec : {M : Type 1} → statement M
 after-run-spec =

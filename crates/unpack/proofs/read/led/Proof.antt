@@ -2,8 +2,9 @@
 -- Assumes nothing.
 use native.Mathlib.Omega.{arith}
 use borrow.Author.Needs.{needs}
+use Rattle.code.specs.Shapes.{below-led}
 use Rattle.code.proofs.Numbers.{power-is}
-use Rattle.unpack.proofs.Parts.{led-parts, led-fits, led-out, led-there}
+use Rattle.unpack.proofs.Parts.{led-fits, led-out, led-there}
 use Rattle.unpack.proofs.read.led.Statement.{statement}
 use Rattle.unpack.proofs.read.led.Tie as tie
 
@@ -16,18 +17,17 @@ returns c =
 field-requires : tie.Need-field-requires
 field-requires c κs =
     let p = c .before .before .pre in
-    let parts = led-parts _ _ _ (p .drop-is) (p .four) (p .top) (p .width-is) in
-    (omega (arith, p .end-is, p .inside, c .if1 .left), parts .narrow)
+    let b = below-led _ (p .drop-is) (p .four) in
+    (omega (arith, p .end-is, p .inside, c .if1 .left), omega (arith, b .half, b .all, p .width-is, p .top))
 
 fill-requires : tie.Need-fill-requires
 fill-requires c κs =
     let at-field = c .before in
     let start = at-field .before .before .before in
     let p = start .pre in
-    let parts = led-parts _ _ _ (p .drop-is) (p .four) (p .top) (p .width-is) in
     let fits = led-fits _ _ (start .args .place) _ (at-field .field .result) (p .drop-is) (p .sign) (p .four) (p .top) (p .width-is)
     (at-field .field .ensures .1) in
-    (omega (arith, parts .few), omega (arith, fits))
+    (omega (arith, p .top), omega (arith, fits))
 
 add-t16 : tie.Need-add-t16
 add-t16 c =
@@ -44,7 +44,8 @@ sub-power : tie.Need-sub-power
 sub-power c =
     let at-field = c .before .before in
     let p = at-field .before .before .before .pre in
-    led-parts _ _ _ (p .drop-is) (p .four) (p .top) (p .width-is) .some
+    let b = below-led _ (p .drop-is) (p .four) in
+    omega (arith, b .some, b .all, p .width-is)
 
 returns-2 : tie.Need-returns-2
 returns-2 c =
@@ -55,11 +56,11 @@ returns-2 c =
     let start = at-else .before .before in
     let a = start .args in
     let p = start .pre in
-    let parts = led-parts _ _ _ (p .drop-is) (p .four) (p .top) (p .width-is) in
+    let b = below-led _ (p .drop-is) (p .four) in
     led-there _ (a .at) (a .end) (a .drop) (a .sign) (a .place) (a .width) (p .end-is) (p .top) (p .width-is) _ (at-field .field .result) _ _ _
-    (parts .left-is) (p .inside) (at-else .if1 .left) (at-field .field .ensures .0)
+    (omega (arith, b .all, p .width-is)) (p .inside) (at-else .if1 .left) (at-field .field .ensures .0)
     (power-is _ _ (at-power .power .ensures) (omega (arith, p .top))) (at-fill .fill .ensures)
-    (power-is _ _ (c .power2 .ensures) (omega (arith, parts .few)))
+    (power-is _ _ (c .power2 .ensures) (omega (arith, p .top)))
 
 pub led-spec : {M : Type 1} → statement M
 led-spec =

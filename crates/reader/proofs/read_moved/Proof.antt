@@ -1,5 +1,5 @@
--- `vectors::codes::moved` meets its contract: a walk of its MIR, by hand, as that of `reader::read_at` with a call more. A `Reader` that
--- one call returns is held in a local and passed to the next. All that the proof knows of the three calls is that each meets its contract.
+-- `reader::read_moved` meets its contract: a walk of its MIR, by hand. A `Reader` that one call returns is held in a local and passed to the
+-- next. All that the proof knows of the three calls is that each meets its contract.
 -- The machine value that a call returns is stored and passed on as it is. In a local of a body MIR erases the lifetime of the struct's
 -- type, so the value is shown to have the type at `erased`: what the struct owns does not say the lifetime's name.
 -- Assumes nothing.
@@ -42,29 +42,29 @@ use denote.Exit.{yes}
 use denote.Triple.Clauses.{ensured, lasts}
 use Rattle.code.specs.Meaning.{unpackMeans}
 use Rattle.code.specs.Promise.{UnpackPromise}
 use Rattle.reader.specs.Promise.{ReaderPromise}
 use Rattle.reader.specs.declared.Reader.{Reader}
 use Rattle.code.specs.declared.Unpacked.{Unpacked}
 use Rattle.reader.proofs.Reader as T
 use Rattle.reader.proofs.Reader.Laws as T′
 use Rattle.code.proofs.Unpacked as S
 use Rattle.code.proofs.Unpacked.Laws as S′
 use Rattle.reader.proofs.reader_at as new
 use Rattle.reader.proofs.reader_at.Symbol as new-def
 use Rattle.reader.proofs.reader_at.Symbol.{name as #reader·reader-at}
 use Rattle.reader.proofs.reader_at.Met as new-thm
 use Rattle.reader.proofs.moved_to as move-to
 use Rattle.reader.proofs.moved_to.Symbol as move-def
 use Rattle.reader.proofs.moved_to.Symbol.{name as #reader·moved-to}
 use Rattle.reader.proofs.moved_to.Met as move-thm
 use Rattle.reader.proofs.next_code as next
 use Rattle.reader.proofs.next_code.Symbol as next-def
 use Rattle.reader.proofs.next_code.Symbol.{name as #reader·next-code}
 use Rattle.reader.proofs.next_code.Met as next-thm
-use Rattle.vectors.proofs.codes.moved.Key.{name as #vectors·moved}
-use Rattle.vectors.proofs.codes.moved as first
-use Rattle.vectors.proofs.codes.moved.Statement as stated
-use Rattle.vectors.proofs.codes.moved.Code as code
+use Rattle.reader.proofs.read_moved.Key.{name as #reader·read-moved}
+use Rattle.reader.proofs.read_moved as first
+use Rattle.reader.proofs.read_moved.Statement as stated
+use Rattle.reader.proofs.read_moved.Code as code
 
 -- the struct's type, over the signature's lifetimes
 abbrev B : Lfts 1 → RattleType
@@ -229,11 +229,11 @@ first-meets 𝓤 H A W mem run 𝓣 known-new known-move known-next = walk-meets
     (WpFn 𝓤 H (𝓣 .C) (𝓣 .Λ) code.function) (WpFn-mono 𝓤 H (W .laws) 𝓣 code.function)
     (first-walks 𝓤 H A W mem run (𝓣 .C) (𝓣 .Λ) (fmOf 𝓤 H (W .laws) 𝓣) known-new known-move known-next)
 
-pub moved-spec : {M : Type 1} → stated.statement M
+pub read-moved-spec : {M : Type 1} → stated.statement M
 unfolding code.routine tablesOf
-moved-spec 𝓤 H 𝓜 𝓖 𝓡 =
+read-moved-spec 𝓤 H 𝓜 𝓖 𝓡 =
     entered 𝓤 H (tripleOf 𝓤 H (𝓖 .A) first.signature (first.spec 𝓤 H (𝓖 .A) (𝓜 .mem) (𝓡 .run)))
-    (tables 𝓤 H 𝓜 𝓡 code.env .C) (tables 𝓤 H 𝓜 𝓡 code.env .Λ) #vectors·moved code.function (code.unfolded 𝓤 H 𝓜 𝓡)
+    (tables 𝓤 H 𝓜 𝓡 code.env .C) (tables 𝓤 H 𝓜 𝓡 code.env .Λ) #reader·read-moved code.function (code.unfolded 𝓤 H 𝓜 𝓡)
     (first-meets 𝓤 H (𝓖 .A) (givenOf 𝓤 H 𝓜 𝓖) (𝓜 .mem) (𝓡 .run) (tablesOf 𝓤 H 𝓜 (tables 𝓤 H 𝓜 𝓡 code.env))
     (cited 𝓤 H (New 𝓤 H (𝓖 .A) (𝓜 .mem) (𝓡 .run)) 𝓜 𝓡 code.env #reader·reader-at new-def.routine code.calls-reader·reader-at (new-thm.met 𝓤 H 𝓜 𝓖 𝓡))
     (cited 𝓤 H (Move 𝓤 H (𝓖 .A) (𝓜 .mem) (𝓡 .run)) 𝓜 𝓡 code.env #reader·moved-to move-def.routine code.calls-reader·moved-to (move-thm.met 𝓤 H 𝓜 𝓖 𝓡))
