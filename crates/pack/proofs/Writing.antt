@@ -23,10 +23,11 @@ use Rattle.code.specs.Meaning.{nought, small, bits, coded, shapeOf, ledOf, lead
 use Rattle.code.specs.Meaning.{bitsThatCount, largest, greatestPlace}
 use Rattle.code.specs.Meaning.{padded, bytesFrom, bytesWith, codeOf, fitsAt, placeMeans, inRule, dropKnown}
 use Rattle.code.specs.BitLists.{length-toBits, length-bitsOf, toBits-low, toBits-join, toBits-ones, toBits-zeros}
-use Rattle.code.specs.Positions.{length-bitsThatCount, allBytes, bytes-back}
+use Rattle.ground.specs.Bytes.{Bytes}
+use Rattle.code.specs.Positions.{length-bitsThatCount, bytes-back}
 use Rattle.code.specs.Magnitudes.{leading-is, exponent-lt, high-lt, field-lt}
 use Rattle.code.specs.Shapes.{Drop, drop-small, below-led}
-use Rattle.code.proofs.Numbers.{shift-is}
+use Rattle.code.specs.Numbers.{shift-is}
 use Rattle.pack.specs.Steps.{Holds, byteBits, PlacePromise}
 use Rattle.code.specs.Promise.{PackPromise}
 use Rattle.code.specs.declared.Packed.{Packed}
@@ -436,7 +437,7 @@ padded-is at number count pad e =
 
 -- they fit
 pub place-there : (buffer last : List ℕ) (at number count end pad joined : ℕ) → end ≡ length (bitsThatCount buffer) → at + count ≤ end
-    → pad ≡ toByteEnd (at + count) → joined ≡ number * 2 ^ pad + 0 → length last ≡ length buffer → allBytes last
+    → pad ≡ toByteEnd (at + count) → joined ≡ number * 2 ^ pad + 0 → length last ≡ length buffer → Bytes last
     → bitsOf last ≡ put (bitsOf buffer) at (toBits (count + pad) joined)
     → PlacePromise buffer at (toBits count number) (Next (at + count)) last
 place-there buffer last at number count end pad joined e h p q same ok wrote =

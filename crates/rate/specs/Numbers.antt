@@ -16,7 +16,8 @@ use Rattle.cadence.specs.Meaning.{lengthOf, secondsMeans}
 use Rattle.rate.specs.declared.record.Rate.{Rate}
 use Rattle.rate.specs.declared.record.Reading.{Reading}
 use Rattle.rate.specs.declared.record.Reading.the-variants.{Exact, Between}
-use Rattle.rate.specs.Meaning.{RateValues, ReadingValues, asFloat, band, exact, negative, rateMeans, rateOf, rateValues, readingMeans, readingOf, shapeReads}
+use Rattle.rate.specs.Meaning.{RateValues, ReadingValues, asFloat, band, exact, negative, rateMeans, rateOf, rateValues}
+use Rattle.rate.specs.Meaning.{readingMeans, readingOf, shapeReads}
 use Rattle.rate.specs.Quotients.{no-nan, rounded}
 
 -- a number

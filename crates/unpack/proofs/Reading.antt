@@ -10,7 +10,7 @@ use lib.ListN.{length, length-drop, take, drop, getD}
 use lib.Seq.{getD-drop, take-suc, length-take-le}
 use lib.Pow.{pow-mono}
 use Rattle.code.specs.Meaning.{bitsThatCount, fromBits, filled}
-use Rattle.code.proofs.Numbers.{shift-is}
+use Rattle.code.specs.Numbers.{shift-is}
 use Rattle.code.specs.BitLists.{allBits, allBits-take, allBits-drop, fromBits-lt}
 use Rattle.code.specs.Positions.{fromBits-snoc, allBits-bitsThatCount}
 

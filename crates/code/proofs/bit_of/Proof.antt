@@ -1,7 +1,7 @@
 -- `code::bit_of` meets its contract: a shift to the bit, or the last bit.
 -- Assumes nothing.
 use borrow.Author.Needs.{needs}
-use Rattle.code.proofs.Numbers.{last-bit}
+use Rattle.code.specs.Numbers.{last-bit}
 use Rattle.code.proofs.bit_of.Statement.{statement}
 use Rattle.code.proofs.bit_of.Tie as tie
 

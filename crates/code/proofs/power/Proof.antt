@@ -1,7 +1,7 @@
 -- `code::power` meets its contract: under 32 the shift loses nothing.
 -- Assumes nothing.
 use borrow.Author.Needs.{needs}
-use Rattle.code.proofs.Numbers.{power-held, power-none}
+use Rattle.code.specs.Numbers.{power-held, power-none}
 use Rattle.code.proofs.power.Statement.{statement}
 use Rattle.code.proofs.power.Tie as tie
 

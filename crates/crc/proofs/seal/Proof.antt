@@ -3,7 +3,7 @@
 use native.Mathlib.Omega.{arith}
 use borrow.Author.Needs.{needs}
 use lib.ListN.{length-take}
-use Rattle.ground.proofs.Lying.{inside}
+use Rattle.ground.specs.Laws.{inside}
 use Rattle.crc.proofs.Covering.{put-behind, no-room}
 use Rattle.crc.proofs.seal.Statement.{statement}
 use Rattle.crc.proofs.seal.Tie as tie

@@ -3,7 +3,7 @@
 use mathlib.Core.Path.{refl}
 use native.Mathlib.Omega.{arith}
 use borrow.Author.Needs.{needs}
-use Rattle.ground.proofs.Lying.{inside}
+use Rattle.ground.specs.Laws.{inside}
 use Rattle.ground.specs.Questions.{answered-yes}
 use Rattle.crc.proofs.Covering.{cut-off, no-word, compared}
 use Rattle.crc.proofs.sealed.Statement.{statement}

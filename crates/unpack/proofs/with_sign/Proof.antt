@@ -1,7 +1,7 @@
 -- `unpack::with_sign` meets its contract: a magnitude inside the rule fits, negated or not.
 -- Assumes nothing.
 use borrow.Author.Needs.{needs}
-use Rattle.code.proofs.Numbers.{plus, minus, minus-fits}
+use Rattle.code.specs.Numbers.{plus, minus, minus-fits}
 use Rattle.unpack.proofs.with_sign.Statement.{statement}
 use Rattle.unpack.proofs.with_sign.Tie as tie
 

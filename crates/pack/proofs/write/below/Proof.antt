@@ -5,7 +5,7 @@ use Prim.Native.Nat.{ℕ, _/_, _%_, _^_}
 use native.Mathlib.Omega.{arith}
 use lib.Pow.{pow-pos}
 use borrow.Author.Needs.{needs}
-use Rattle.code.proofs.Numbers.{power-is}
+use Rattle.code.specs.Numbers.{power-is}
 use Rattle.pack.proofs.write.below.Statement.{statement}
 use Rattle.pack.proofs.write.below.Tie as tie
 

@@ -4,7 +4,7 @@ use mathlib.Core.Path.{refl}
 use native.Mathlib.Omega.{arith}
 use borrow.Author.Needs.{needs}
 use Rattle.ground.specs.Questions.{answered-yes}
-use Rattle.ground.proofs.Lying.{inside}
+use Rattle.ground.specs.Laws.{inside}
 use Rattle.packet.proofs.Standing.{too-near-the-end, not-marked, too-small, too-large, up-to-checksum}
 use Rattle.packet.proofs.parts.stands_at.Statement.{statement}
 use Rattle.packet.proofs.parts.stands_at.Tie as tie

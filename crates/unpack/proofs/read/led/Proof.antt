@@ -3,7 +3,7 @@
 use native.Mathlib.Omega.{arith}
 use borrow.Author.Needs.{needs}
 use Rattle.code.specs.Shapes.{below-led}
-use Rattle.code.proofs.Numbers.{power-is}
+use Rattle.code.specs.Numbers.{power-is}
 use Rattle.unpack.proofs.Parts.{led-fits, led-out, led-there}
 use Rattle.unpack.proofs.read.led.Statement.{statement}
 use Rattle.unpack.proofs.read.led.Tie as tie

@@ -1,10 +1,10 @@
--- `lines::taken` meets its contract.
+-- `lines::with_byte` meets its contract.
 -- Assumes nothing.
 use mathlib.Core.Path.{_∙_}
 use borrow.Author.Needs.{needs}
 use Rattle.lines.proofs.Bytes.{step-later, step-minus, step-first}
-use Rattle.lines.proofs.taken.Statement.{statement}
-use Rattle.lines.proofs.taken.Tie as tie
+use Rattle.lines.proofs.with_byte.Statement.{statement}
+use Rattle.lines.proofs.with_byte.Tie as tie
 
 returns : tie.Need-returns
 returns c = record { answer = c .digit-taken .ensures ∙ step-later (c .before .before .args .line) (c .before .before .args .byte) (c .before .if1 .taken) }
@@ -18,5 +18,5 @@ returns-3 c = record {
       (c .before .before .if1 .left) (c .before .if2 .left);
 }
 
-pub taken-spec : {M : Type 1} → statement M
-taken-spec = tie.close (tie.spec (λ c κs. search needs) returns (λ c κs. search needs) returns-2 returns-3)
+pub with-byte-spec : {M : Type 1} → statement M
+with-byte-spec = tie.close (tie.spec (λ c κs. search needs) returns (λ c κs. search needs) returns-2 returns-3)
