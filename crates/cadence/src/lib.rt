@@ -21,7 +21,7 @@ pub enum Level {
 }
 
 // How many seconds a level lasts: 1, 5, 10, 30, 60, 300, 600 or 3600.
-pub fn seconds(level: u8) -> Length
+pub fn level_seconds(level: u8) -> Length
     ensures { λ r. ⌜ SecondsPromise level r ⌝ }
 {
     match level {
@@ -38,7 +38,7 @@ pub fn seconds(level: u8) -> Length
 }
 
 // The highest level that begins in a second of the hour.
-pub fn beginning(second: u16) -> Level
+pub fn second_beginning(second: u16) -> Level
     ensures { λ r. ⌜ BeginningPromise second r ⌝ }
 {
     if HOUR <= second {
@@ -48,7 +48,7 @@ pub fn beginning(second: u16) -> Level
 }
 
 // The highest level that ends with a second of the hour.
-pub fn ending(second: u16) -> Level
+pub fn second_ending(second: u16) -> Level
     ensures { λ r. ⌜ EndingPromise second r ⌝ }
 {
     if HOUR <= second {

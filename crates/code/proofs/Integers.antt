@@ -63,6 +63,7 @@ module _ (v : ℤ) (f : SFits w32 v) where
         subst (SFits w32) (o .1) f .sfits,
       )
 
+  -- 64 bits hold it
   pub negated-fits : SFits w64 (pos 0 -ℤ asWide v)
   negated-fits = subst (λ (z : ℤ). SFits w64 (pos 0 -ℤ z)) (sym (as-wide v f)) (negation-fits v f)
 
@@ -70,29 +71,35 @@ module _ (v : ℤ) (f : SFits w32 v) where
   negated-back : (t : ltZ (asWide v) (pos 0) ≡ true) → toZ w64 (ofZ w64 (pos 0 -ℤ asWide v)) ≡ pos (suc (negated t .0))
   negated-back t = toZ-ofZ w64 (pos 0 -ℤ asWide v) negated-fits ∙ negated t .2
 
+  -- as 32 bits it loses nothing
   pub negated-cast : ltZ (asWide v) (pos 0) ≡ true
       → T (nonNeg (toZ w64 (ofZ w64 (pos 0 -ℤ asWide v)))) × Fits w32 (natAbs (toZ w64 (ofZ w64 (pos 0 -ℤ asWide v))))
   negated-cast t =
       let o = negated t in
       subst (λ (z : ℤ). T (nonNeg z) × Fits w32 (natAbs z)) (sym (negated-back t)) (tt, record { fits = omega (arith, o .3) })
 
+  -- and it is the magnitude
   pub negated-is : ltZ (asWide v) (pos 0) ≡ true → natAbs (toZ w64 (ofZ w64 (pos 0 -ℤ asWide v))) ≡ natAbs v
   negated-is t = ap natAbs (negated-back t) ∙ ap natAbs (sym (negated t .1))
 
+  -- a number that is not negative loses nothing as 32 bits
   pub natural-cast : ltZ (asWide v) (pos 0) ≡ false → T (nonNeg (asWide v)) × Fits w32 (natAbs (asWide v))
   natural-cast t =
       let o = natural v (subst (λ (z : ℤ). ltZ z (pos 0) ≡ false) (as-wide v f) t) in
       subst (λ (z : ℤ). T (nonNeg z) × Fits w32 (natAbs z)) (sym (as-wide v f ∙ o .1))
       (tt, record { fits = omega (arith, subst (SFits w32) (o .1) f .sfits) })
 
+  -- and is its own magnitude
   pub natural-is : natAbs (asWide v) ≡ natAbs v
   natural-is = ap natAbs (as-wide v f)
 
+  -- the sign bit of a negative number
   pub sign-minus : ltZ (toZ w32 (ofZ w32 v)) (pos 0) ≡ true → SignPromise v 1
   sign-minus t =
       let o = negative v (subst (λ (z : ℤ). ltZ z (pos 0) ≡ true) (toZ-ofZ w32 v f) t) in
       record { answer = ap signOf (sym (o .1)); bit = omega arith }
 
+  -- and of any other
   pub sign-plus : ltZ (toZ w32 (ofZ w32 v)) (pos 0) ≡ false → SignPromise v 0
   sign-plus t =
       let o = natural v (subst (λ (z : ℤ). ltZ z (pos 0) ≡ false) (toZ-ofZ w32 v f) t) in

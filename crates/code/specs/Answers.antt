@@ -1,50 +1,90 @@
 -- What each answer is on document 01's paper, and the way back.
 -- Assumes nothing.
-use mathlib.Core.Path.{_≡_, refl}
+use mathlib.Core.Path.{_≡_, refl, ap}
 use Prim.Native.Nat.{ℕ}
 use lib.Dec.{eqb}
 use Rattle.ground.specs.Choice.{pick}
 use Rattle.ground.specs.Paper.{Paper, accepted, refusal, refused}
-use Rattle.code.specs.Meaning.{UnpackValues}
+use Rattle.code.specs.Meaning.{ShapeValues, UnpackValues}
 use Rattle.code.specs.declared.Packed.{Packed}
-use Rattle.code.specs.declared.Packed.the-variants.{Next, OutsideRule as PackedOutsideRule, TooShort}
+use Rattle.code.specs.declared.Packed.the-variants as P
+use Rattle.code.specs.declared.Refusal.{Refusal}
+use Rattle.code.specs.declared.Refusal.the-variants.{OutsideRule, RanOut, RedundantZero, RunTooLong}
+use Rattle.code.specs.declared.ShapeAnswer.{ShapeAnswer}
+use Rattle.code.specs.declared.ShapeAnswer.the-variants as S
 use Rattle.code.specs.declared.Unpacked.{Unpacked}
-use Rattle.code.specs.declared.Unpacked.the-variants.{Number, OutsideRule, RanOut, RedundantZero, RunTooLong}
+use Rattle.code.specs.declared.Unpacked.the-variants as U
 
 -- the next position; 8 or 3
 abbrev pub packedPaper : Packed → Paper ℕ
-packedPaper (Next next) = accepted next
-packedPaper PackedOutsideRule = refused 8
-packedPaper TooShort = refused 3
+packedPaper (P.Next next) = accepted next
+packedPaper P.OutsideRule = refused 8
+packedPaper P.TooShort = refused 3
 
 -- the answer that a paper came from
 abbrev pub packedBack : Paper ℕ → Packed
-packedBack (accepted next) = Next next
-packedBack (refusal n carried) = pick (eqb n 8) PackedOutsideRule TooShort
+packedBack (accepted next) = P.Next next
+packedBack (refusal n carried) = pick (eqb n 8) P.OutsideRule P.TooShort
 
 -- no two answers of writing read the same on paper
 pub packed-home : (a : Packed) → packedBack (packedPaper a) ≡ a
-packed-home (Next next) = refl
-packed-home PackedOutsideRule = refl
-packed-home TooShort = refl
+packed-home (P.Next next) = refl
+packed-home P.OutsideRule = refl
+packed-home P.TooShort = refl
+
+-- the numbers of the refusals of reading: drop or number 8, "9, 10, 11 as bits arrive"
+abbrev pub refusalNumber : Refusal → ℕ
+refusalNumber OutsideRule = 8
+refusalNumber RanOut = 9
+refusalNumber RedundantZero = 10
+refusalNumber RunTooLong = 11
+
+-- a refusal of reading, the same on the paper of everything that reads codes
+abbrev pub refusalPaper : {A : Type 0} → Refusal → Paper A
+refusalPaper why = refused (refusalNumber why)
+
+-- the refusal of a number
+abbrev pub refusalBack : ℕ → Refusal
+refusalBack n = pick (eqb n 8) OutsideRule (pick (eqb n 9) RanOut (pick (eqb n 10) RedundantZero RunTooLong))
+
+-- a refusal is the one of its number
+pub refusal-home : (why : Refusal) → refusalBack (refusalNumber why) ≡ why
+refusal-home OutsideRule = refl
+refusal-home RanOut = refl
+refusal-home RedundantZero = refl
+refusal-home RunTooLong = refl
+
+-- sign, magnitude, error and the next position; 8, 9, 10 or 11
+abbrev pub shapePaper : ShapeAnswer → Paper ShapeValues
+shapePaper (S.Shape sign magnitude error next) = accepted (record { sign = sign; magnitude = magnitude; error = error; next = next })
+shapePaper (S.Refused why) = refusalPaper why
+
+-- the answer that a paper came from
+abbrev pub shapeBack : Paper ShapeValues → ShapeAnswer
+shapeBack (accepted v) = S.Shape (v .sign) (v .magnitude) (v .error) (v .next)
+shapeBack (refusal n carried) = S.Refused (refusalBack n)
+
+-- no two answers of reading a shape read the same on paper
+pub shape-home : (a : ShapeAnswer) → shapeBack (shapePaper a) ≡ a
+shape-home (S.Shape sign magnitude error next) = refl
+shape-home (S.Refused why) = ap S.Refused (refusal-home why)
+
+-- why no shape was read; of one that was read nothing is asked
+abbrev pub reasonOf : ShapeAnswer → Refusal
+reasonOf (S.Shape sign magnitude error next) = OutsideRule
+reasonOf (S.Refused why) = why
 
 -- the number and the next position; 8, 9, 10 or 11
 abbrev pub unpackedPaper : Unpacked → Paper UnpackValues
-unpackedPaper (Number value next) = accepted (record { value = value; next = next })
-unpackedPaper OutsideRule = refused 8
-unpackedPaper RanOut = refused 9
-unpackedPaper RedundantZero = refused 10
-unpackedPaper RunTooLong = refused 11
+unpackedPaper (U.Number value next) = accepted (record { value = value; next = next })
+unpackedPaper (U.Refused why) = refusalPaper why
 
 -- the answer that a paper came from
 abbrev pub unpackedBack : Paper UnpackValues → Unpacked
-unpackedBack (accepted t) = Number (t .value) (t .next)
-unpackedBack (refusal n carried) = pick (eqb n 8) OutsideRule (pick (eqb n 9) RanOut (pick (eqb n 10) RedundantZero RunTooLong))
+unpackedBack (accepted t) = U.Number (t .value) (t .next)
+unpackedBack (refusal n carried) = U.Refused (refusalBack n)
 
 -- no two answers of reading read the same on paper
 pub unpacked-home : (a : Unpacked) → unpackedBack (unpackedPaper a) ≡ a
-unpacked-home (Number value next) = refl
-unpacked-home OutsideRule = refl
-unpacked-home RanOut = refl
-unpacked-home RedundantZero = refl
-unpacked-home RunTooLong = refl
+unpacked-home (U.Number value next) = refl
+unpacked-home (U.Refused why) = ap U.Refused (refusal-home why)

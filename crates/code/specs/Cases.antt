@@ -1,11 +1,12 @@
--- Codes in bytes, computed from the definitions; document 01's starred cases are in `demands`.
+-- Codes in bytes and the errors of the tables, computed from the definitions; document 01's starred cases are in `demands`.
 -- Assumes nothing.
 use mathlib.Core.Path.{_≡_, refl}
-use mathlib.Core.List.{[], _∷_}
+use mathlib.Core.List.{List, [], _∷_, map}
+use Prim.Native.Nat.{ℕ}
 use lib.IntN.{pos}
 use Rattle.ground.specs.Paper.{accepted}
 use Rattle.ground.specs.Outcome.{accept}
-use Rattle.code.specs.Meaning.{unpackMeans, packMeans, shapeOf, leadingIn, parse, afterSign, bytesFrom, bitsThatCount}
+use Rattle.code.specs.Meaning.{nought, small, led, error, unpackMeans, packMeans, shapeOf, leadingIn, parse, afterSign, bytesFrom, bitsThatCount}
 
 -- 100 read at bit 8, with another code's bits before it
 reads-hundred : unpackMeans (0b11110000 ∷ 0b10110110 ∷ 0 ∷ []) 8 0 ≡ accepted (record { value = pos 99; next = 17 })
@@ -16,3 +17,15 @@ reads-hundred = refl
 writes-hundred : packMeans (255 ∷ 255 ∷ 255 ∷ 255 ∷ []) 5 (pos 100) 0 ≡ accept 14 (0b11111101 ∷ 0b10110000 ∷ 255 ∷ 255 ∷ [])
 unfolding shapeOf leadingIn bytesFrom bitsThatCount
 writes-hundred = refl
+
+-- the second column of a table, from the row of 0 to that of 65536 to 131071
+abbrev pub column : ℕ → List ℕ
+column d = error d nought ∷ error d (small 0 1) ∷ map (λ (k : ℕ). error d (led 0 k 0)) (4 ∷ 5 ∷ 6 ∷ 7 ∷ 8 ∷ 9 ∷ 10 ∷ 11 ∷ 12 ∷ 13 ∷ 14 ∷ 15 ∷ 16 ∷ [])
+
+-- table 14 of 000
+pub table-14 : column 0 ≡ 0 ∷ 0 ∷ 1 ∷ 2 ∷ 4 ∷ 4 ∷ 8 ∷ 8 ∷ 16 ∷ 16 ∷ 32 ∷ 32 ∷ 64 ∷ 64 ∷ 128 ∷ []
+table-14 = refl
+
+-- table 15 of 000
+pub table-15 : column 3 ≡ 3 ∷ 4 ∷ 8 ∷ 16 ∷ 32 ∷ 32 ∷ 64 ∷ 64 ∷ 128 ∷ 128 ∷ 256 ∷ 256 ∷ 512 ∷ 512 ∷ 1024 ∷ []
+table-15 = refl

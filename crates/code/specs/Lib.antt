@@ -5,6 +5,7 @@ pub mod Shapes
 pub mod Magnitudes
 pub mod Answers
 pub mod Promise
+pub mod Numbers
 pub mod Positions
 pub mod OneOutcome
 pub mod Theorems

@@ -1,13 +1,14 @@
 -- Packed codes, in document 01's words and order: a number has a shape, a shape has bits, bits are parsed to a shape, a shape has a value.
+-- The limits follow from one number, the greatest place of a leading one (`top`), which is a parameter of what is read and of what is valid.
 -- Assumes nothing.
 use mathlib.Core.Bool.{Bool, true, _&&_}
 use mathlib.Core.List.{List, [], _∷_, _++_}
-use Prim.Native.Nat.{ℕ, zero, suc, _+_, _*_, _-_, _/_, _%_, _^_}
+use Prim.Native.Nat.{ℕ, zero, suc, _+_, _*_, _-_, _/_, _%_, _^_, max}
 use lib.IntN.{ℤ, pos, negsuc, negℤ, natAbs}
 use lib.ListN.{length, take, drop, replicate}
 use lib.Dec.{ltb, leb, eqb}
 use Rattle.ground.specs.Choice.{pick}
-use Rattle.ground.specs.Paper.{Paper, accepted, refused}
+use Rattle.ground.specs.Paper.{Paper, accepted, refused, mapped}
 use Rattle.ground.specs.Outcome.{Outcome, accept, refuse}
 use Rattle.ground.specs.Bits.{toBits, bitsOf}
 use Rattle.ground.specs.Putting.{put}
@@ -16,25 +17,36 @@ use Rattle.ground.specs.Putting.{put}
 abbrev pub dropKnown : ℕ → Bool
 dropKnown d = pick (eqb d 0) true (eqb d 3)
 
+-- the greatest place of a leading one, from which every limit of packed codes follows
+abbrev pub greatestPlace : ℕ
+greatestPlace = 24
+
+-- the largest magnitude whose leading one is not above a place
+abbrev pub largestTo : ℕ → ℕ
+largestTo top = 2 ^ suc top - 1
+
 -- "|v| at most 33,554,431"
 abbrev pub largest : ℕ
-largest = 33554431
+largest = largestTo greatestPlace
+
+-- "j = (k-1)/2 rounded down": the ones in the code of a magnitude whose leading one is at place k
+abbrev pub onesOf : ℕ → ℕ
+onesOf k = (k - 1) / 2
 
 -- "A reader that has seen 12 ones after the sign refuses": the longest run of ones that is taken
-abbrev pub longestRun : ℕ
-longestRun = 11
+abbrev pub longestRun : ℕ → ℕ
+longestRun top = onesOf top
 
 -- "m = 0 is `0`", and with drop 3 "m of 0 to 3 is `0`": the least magnitude that has a code of its own
 abbrev pub leastCoded : ℕ → ℕ
 leastCoded zero = 1
 leastCoded (suc d) = 4
 
--- the shape of a code: nought; small (sign, field); mid (sign, field); big (sign, ones, parity, field)
+-- the shape of a code: nought; small, under 16 (sign, field); led, from 16 on (sign, place of the leading one, field)
 pub data Shape : Type 0 where
   nought : Shape
   small : ℕ → ℕ → Shape
-  mid : ℕ → ℕ → Shape
-  big : ℕ → ℕ → ℕ → ℕ → Shape
+  led : ℕ → ℕ → ℕ → Shape
 
 -- "2^k ≤ m < 2^(k+1)": the place of the leading one, looked for over so many places
 unfoldable pub leadingIn : ℕ → ℕ → ℕ
@@ -45,39 +57,35 @@ leadingIn (suc places) m = pick (ltb m 2) zero (suc (leadingIn places (m / 2)))
 abbrev pub leading : ℕ → ℕ
 leading m = leadingIn 31 m
 
--- "k at least 5, j = (k-1)/2 rounded down", "0 for odd k or 1 for even k, then the first j+1-drop bits after the leading one": k is 2·j + 1 + parity, and j
--- + parity + drop bits are left out
-abbrev pub bigOf : ℕ → ℕ → ℕ → ℕ → Shape
-bigOf d s k m = big s ((k - 1) / 2) ((k - 1) % 2) (m % 2 ^ k / 2 ^ ((k - 1) / 2 + (k - 1) % 2 + d))
+-- the bits below a leading one at place k that a code leaves out: one and the drop of 16 to 31, half of k and the drop from 32 on
+abbrev pub leftOut : ℕ → ℕ → ℕ
+leftOut d k = pick (eqb k 4) (1 + d) (k / 2 + d)
+
+-- those that it has: "the three bits after the leading one", "the first j+1-drop bits after the leading one" (`width-four`, `width-is`)
+abbrev pub width : ℕ → ℕ → ℕ
+width d k = k - leftOut d k
+
+-- a magnitude whose leading one is at place k
+abbrev pub ledOf : ℕ → ℕ → ℕ → ℕ → Shape
+ledOf d s k m = led s k (m % 2 ^ k / 2 ^ leftOut d k)
 
 -- the shape of a sign and a magnitude, by document 01's three bullets
 unfoldable pub shapeOf : ℕ → ℕ → ℕ → Shape
-shapeOf d s m =
-    pick (ltb m (leastCoded d))
-    nought
-    (pick (ltb m 16)
-    (small s (m / 2 ^ d))
-    (pick (ltb m 32)
-    (mid s (m % 16 / 2 ^ (1 + d)))
-    (bigOf d s (leading m) m)))
+shapeOf d s m = pick (ltb m (leastCoded d)) nought (pick (ltb m 16) (small s (m / 2 ^ d)) (ledOf d s (leading m) m))
 
 -- "`1 s`, j ones, `0`, then" what follows
 abbrev pub coded : ℕ → ℕ → List ℕ → List ℕ
 coded s ones after = 1 ∷ s ∷ (replicate ones 1 ++ (0 ∷ after))
 
+-- "then 0 for odd k or 1 for even k", which 16 to 31 do without, and what follows
+abbrev pub withParity : ℕ → List ℕ → List ℕ
+withParity k after = pick (eqb k 4) after ((k - 1) % 2 ∷ after)
+
 -- the bits of a shape, the third columns of tables 14 and 15 of 000
 abbrev pub bits : ℕ → Shape → List ℕ
 bits d nought = 0 ∷ []
 bits d (small s x) = coded s 0 (toBits (4 - d) x)
-bits d (mid s x) = coded s 1 (toBits (3 - d) x)
-bits d (big s ones p x) = coded s ones (p ∷ toBits (ones + 1 - d) x)
-
--- the bits of the magnitude that the code leaves out: the dashes of tables 14 and 15 of 000; nought has none
-abbrev pub leftOut : ℕ → Shape → ℕ
-leftOut d nought = 0
-leftOut d (small s x) = d
-leftOut d (mid s x) = 1 + d
-leftOut d (big s ones p x) = ones + p + d
+bits d (led s k x) = coded s (onesOf k) (withParity k (toBits (width d k) x))
 
 -- "Decoding puts 0 for the first bit left out and 1 for the rest": a field, and so many bits left out after it
 abbrev pub filled : ℕ → ℕ → ℕ
@@ -87,8 +95,26 @@ filled left x = x * 2 ^ left + (2 ^ (left - 1) - 1)
 abbrev pub magnitude : ℕ → Shape → ℕ
 magnitude d nought = 0
 magnitude d (small s x) = pick (eqb d 3 && eqb x 0) 5 (filled d x)
-magnitude d (mid s x) = 16 + filled (1 + d) x
-magnitude d (big s ones p x) = 2 ^ (2 * ones + 1 + p) + filled (ones + p + d) x
+magnitude d (led s k x) = 2 ^ k + filled (leftOut d k) x
+
+-- "A code's error is 0 for drop 0 and m under 16, 3 for drop 3's `0`, 4 for drop 3's 4 to 15, else 2^(d-1), d being the bits left out": the second columns
+-- of tables 14 and 15 of 000
+abbrev pub error : ℕ → Shape → ℕ
+error d nought = pick (eqb d 0) 0 3
+error d (small s x) = pick (eqb d 0) 0 4
+error d (led s k x) = 2 ^ (leftOut d k - 1)
+
+-- the least magnitude that packs to a shape
+abbrev pub lowest : ℕ → Shape → ℕ
+lowest d nought = 0
+lowest d (small s x) = max (leastCoded d) (x * 2 ^ d)
+lowest d (led s k x) = 2 ^ k + x * 2 ^ leftOut d k
+
+-- the greatest magnitude that packs to a shape
+abbrev pub highest : ℕ → Shape → ℕ
+highest d nought = leastCoded d - 1
+highest d (small s x) = x * 2 ^ d + (2 ^ d - 1)
+highest d (led s k x) = 2 ^ k + (x * 2 ^ leftOut d k + (2 ^ leftOut d k - 1))
 
 -- "s is 1 for negative"
 abbrev pub signOf : ℤ → ℕ
@@ -104,8 +130,7 @@ signed (suc s) m = negℤ (pos m)
 abbrev pub sign : Shape → ℕ
 sign nought = 0
 sign (small s x) = s
-sign (mid s x) = s
-sign (big s ones p x) = s
+sign (led s k x) = s
 
 -- the decoded number of a shape
 abbrev pub value : ℕ → Shape → ℤ
@@ -135,71 +160,85 @@ abbrev pub fromBits : List ℕ → ℕ
 fromBits [] = 0
 fromBits (b ∷ l) = b * 2 ^ length l + fromBits l
 
--- a field of so many bits, then the end of the code
-abbrev pub field : ℕ → (ℕ → Shape) → List ℕ → Parsed
-field w shape l = pick (ltb (length l) w) ranOut (found (shape (fromBits (take w l))) (drop w l))
+-- a field of so many bits, and what is found by it
+abbrev pub field : ℕ → (ℕ → List ℕ → Parsed) → List ℕ → Parsed
+field w then l = pick (ltb (length l) w) ranOut (then (fromBits (take w l)) (drop w l))
 
--- "Drop 0's `1s00000` is refused by 10"
-abbrev pub unlessZero : ℕ → Parsed → Parsed
-unlessZero d (found (small s x) rest) = pick (eqb d 0 && eqb x 0) redundantZero (found (small s x) rest)
-unlessZero d (found nought rest) = found nought rest
-unlessZero d (found (mid s x) rest) = found (mid s x) rest
-unlessZero d (found (big s ones p x) rest) = found (big s ones p x) rest
-unlessZero d ranOut = ranOut
-unlessZero d redundantZero = redundantZero
-unlessZero d runTooLong = runTooLong
+-- a small field; "Drop 0's `1s00000` is refused by 10"
+abbrev pub smallFound : ℕ → ℕ → ℕ → List ℕ → Parsed
+smallFound d s x rest = pick (eqb d 0 && eqb x 0) redundantZero (found (small s x) rest)
 
--- what follows the parity
-abbrev pub bigField : ℕ → ℕ → ℕ → ℕ → List ℕ → Parsed
-bigField d s ones p l = field (ones + 1 - d) (big s ones p) l
+-- the field under a leading one; a place above the greatest is refused as a run that is too long
+abbrev pub ledThen : ℕ → ℕ → ℕ → ℕ → List ℕ → Parsed
+ledThen top d s k l = pick (leb k top) (field (width d k) (λ x. found (led s k x)) l) runTooLong
 
--- the parity, and what follows it
-abbrev pub parityThen : ℕ → ℕ → ℕ → List ℕ → Parsed
-parityThen d s ones [] = ranOut
-parityThen d s ones (p ∷ l) = bigField d s ones p l
+-- the parity after j ones, which tells the place 2·j + 1 + parity, and what follows it
+abbrev pub parityThen : ℕ → ℕ → ℕ → ℕ → List ℕ → Parsed
+parityThen top d s ones [] = ranOut
+parityThen top d s ones (p ∷ l) = ledThen top d s (2 * ones + 1 + p) l
 
 -- what follows the run of ones and its zero
-abbrev pub afterRun : ℕ → ℕ → ℕ → List ℕ → Parsed
-afterRun d s zero l = unlessZero d (field (4 - d) (small s) l)
-afterRun d s (suc zero) l = field (3 - d) (mid s) l
-afterRun d s (suc (suc ones)) l = parityThen d s (suc (suc ones)) l
+abbrev pub afterRun : ℕ → ℕ → ℕ → ℕ → List ℕ → Parsed
+afterRun top d s zero l = field (4 - d) (smallFound d s) l
+afterRun top d s (suc zero) l = ledThen top d s 4 l
+afterRun top d s (suc (suc ones)) l = parityThen top d s (suc (suc ones)) l
 
 -- the run of ones and its zero, so many ones having been seen
-unfoldable pub afterSign : ℕ → ℕ → ℕ → List ℕ → Parsed
-afterSign d s ones [] = ranOut
-afterSign d s ones (zero ∷ l) = afterRun d s ones l
-afterSign d s ones (suc b ∷ l) = pick (ltb ones longestRun) (afterSign d s (suc ones) l) runTooLong
+unfoldable pub afterSign : ℕ → ℕ → ℕ → ℕ → List ℕ → Parsed
+afterSign top d s ones [] = ranOut
+afterSign top d s ones (zero ∷ l) = afterRun top d s ones l
+afterSign top d s ones (suc b ∷ l) = pick (ltb ones (longestRun top)) (afterSign top d s (suc ones) l) runTooLong
 
 -- the shape that stands at the front of bits, as they arrive
-unfoldable pub parse : ℕ → List ℕ → Parsed
-parse d [] = ranOut
-parse d (zero ∷ l) = found nought l
-parse d (suc b ∷ []) = ranOut
-parse d (suc b ∷ (s ∷ l)) = afterSign d s 0 l
+unfoldable pub parse : ℕ → ℕ → List ℕ → Parsed
+parse top d [] = ranOut
+parse top d (zero ∷ l) = found nought l
+parse top d (suc b ∷ []) = ranOut
+parse top d (suc b ∷ (s ∷ l)) = afterSign top d s 0 l
 
 -- "Bits from position 2^63 on count as past the end": the bits that count
 unfoldable pub bitsThatCount : List ℕ → List ℕ
 bitsThatCount bytes = take (2 ^ 63) (bitsOf bytes)
 
--- what stands at a bit position of bytes
-abbrev pub parseAt : List ℕ → ℕ → ℕ → Parsed
-parseAt bytes at d = parse d (drop at (bitsThatCount bytes))
+-- what is read of a code: its sign, its decoded magnitude, its error, and "the next position"
+pub record ShapeValues : Type 0 where
+  pub sign : ℕ
+  pub magnitude : ℕ
+  pub error : ℕ
+  pub next : ℕ
+
+-- the same, of a shape
+abbrev pub valuesOf : ℕ → Shape → ℕ → ShapeValues
+valuesOf d shape next = record { sign = sign shape; magnitude = magnitude d shape; error = error d shape; next = next }
+
+-- the answer to what was found at a position: 9, 10, 11 as bits arrive
+abbrev pub answerOf : ℕ → ℕ → Parsed → Paper ShapeValues
+answerOf d at (found shape rest) = accepted (valuesOf d shape (at + length (bits d shape)))
+answerOf d at ranOut = refused 9
+answerOf d at redundantZero = refused 10
+answerOf d at runTooLong = refused 11
+
+-- "A bit position past the end is refused by 9 on reading"; at the end itself bits run out as they arrive, by 9 too
+abbrev pub positionMeans : List ℕ → ℕ → ℕ → Paper ShapeValues
+positionMeans bytes at d =
+    pick (ltb (length (bitsThatCount bytes)) at) (refused 9) (answerOf d at (parse greatestPlace d (drop at (bitsThatCount bytes))))
+
+-- reading a shape: "drop 8 first, then 9, 10, 11 as bits arrive"
+abbrev pub shapeMeans : List ℕ → ℕ → ℕ → Paper ShapeValues
+shapeMeans bytes at d = pick (dropKnown d) (positionMeans bytes at d) (refused 8)
 
 -- an accepted reading: the number, and "the next position"
 pub record UnpackValues : Type 0 where
   pub value : ℤ
   pub next : ℕ
 
--- the answer to what was found at a position: 9, 10, 11 as bits arrive
-abbrev pub answerOf : ℕ → ℕ → Parsed → Paper UnpackValues
-answerOf d at (found shape rest) = accepted (record { value = value d shape; next = at + length (bits d shape) })
-answerOf d at ranOut = refused 9
-answerOf d at redundantZero = refused 10
-answerOf d at runTooLong = refused 11
+-- the number of what was read
+abbrev pub numberRead : ShapeValues → UnpackValues
+numberRead v = record { value = signed (v .sign) (v .magnitude); next = v .next }
 
--- reading: "drop 8 first, then 9, 10, 11 as bits arrive"
+-- reading a number: that of the shape that was read
 abbrev pub unpackMeans : List ℕ → ℕ → ℕ → Paper UnpackValues
-unpackMeans bytes at d = pick (dropKnown d) (answerOf d at (parseAt bytes at d)) (refused 8)
+unpackMeans bytes at d = mapped numberRead (shapeMeans bytes at d)
 
 -- a number and a drop inside the rule
 abbrev pub inRule : ℤ → ℕ → Bool

@@ -10,15 +10,22 @@ use lib.ListN.{length}
 use Rattle.ground.specs.Paper.{numberOf, one-answer, one-value}
 use Rattle.ground.specs.Outcome.{outcome-one}
 use Rattle.code.specs.Meaning.{bitsThatCount, dropKnown, largest}
-use Rattle.code.specs.Answers.{packedPaper, packedBack, packed-home, unpackedPaper, unpackedBack, unpacked-home}
-use Rattle.code.specs.Promise.{PackPromise, UnpackPromise, SignPromise}
+use Rattle.code.specs.Answers.{packedPaper, packedBack, packed-home, shapePaper, shapeBack, shape-home, reasonOf, refusalNumber}
+use Rattle.code.specs.Answers.{unpackedPaper, unpackedBack, unpacked-home}
+use Rattle.code.specs.Promise.{PackPromise, ShapePromise, UnpackPromise, SignPromise, PowerPromise, BitPromise}
 use Rattle.code.specs.declared.Packed.{Packed}
+use Rattle.code.specs.declared.Refusal.{Refusal}
+use Rattle.code.specs.declared.ShapeAnswer.{ShapeAnswer}
 use Rattle.code.specs.declared.Unpacked.{Unpacked}
 
 -- writing has one outcome
 pub pack-one : {buffer : List ℕ} {at : ℕ} {v : ℤ} {d : ℕ} {r s : Packed} {a b : List ℕ}
     → PackPromise buffer at v d r a → PackPromise buffer at v d s b → (r ≡ s) × (a ≡ b)
 pack-one p q = outcome-one packedPaper packedBack packed-home (p .outcome) (q .outcome)
+
+-- reading a shape has one outcome
+pub shape-one : {bytes : List ℕ} {at d : ℕ} {r s : ShapeAnswer} → ShapePromise bytes at d r → ShapePromise bytes at d s → r ≡ s
+shape-one p q = one-answer shapePaper shapeBack shape-home (p .answer) (q .answer)
 
 -- reading has one outcome, by `unpack`, by a reader and by the call above them
 pub unpack-one : {bytes : List ℕ} {at d : ℕ} {r s : Unpacked} → UnpackPromise bytes at d r → UnpackPromise bytes at d s → r ≡ s
@@ -31,6 +38,14 @@ packed-number-one answer p q = one-value p q
 -- one number for an answer of reading
 pub unpacked-number-one : (answer : Unpacked) {m n : ℕ} → m ≡ numberOf (unpackedPaper answer) → n ≡ numberOf (unpackedPaper answer) → m ≡ n
 unpacked-number-one answer p q = one-value p q
+
+-- one number for a refusal
+pub refusal-number-one : (why : Refusal) {m n : ℕ} → m ≡ refusalNumber why → n ≡ refusalNumber why → m ≡ n
+refusal-number-one why p q = one-value p q
+
+-- one reason for an answer
+pub reason-one : (a : ShapeAnswer) {x y : Refusal} → x ≡ reasonOf a → y ≡ reasonOf a → x ≡ y
+reason-one a p q = one-value p q
 
 -- one magnitude for a number
 pub magnitude-one : (v : ℤ) {m n : ℕ} → m ≡ natAbs v → n ≡ natAbs v → m ≡ n
@@ -55,3 +70,11 @@ wide-one d p q = one-value p q
 -- one number of bits that count
 pub end-of-one : (bytes : List ℕ) {m n : ℕ} → m ≡ length (bitsThatCount bytes) → n ≡ length (bitsThatCount bytes) → m ≡ n
 end-of-one bytes p q = one-value p q
+
+-- one power of two for an exponent
+pub power-one : (k : ℕ) {m n : ℕ} → PowerPromise k m → PowerPromise k n → m ≡ n
+power-one k p q = one-value (p .answer) (q .answer)
+
+-- one bit for a byte and a place
+pub bit-of-one : (byte place : ℕ) {m n : ℕ} → BitPromise byte place m → BitPromise byte place n → m ≡ n
+bit-of-one byte place p q = one-value (p .answer) (q .answer)

@@ -9,6 +9,7 @@ use lib.ListN.{length, length-append, length-take, length-drop, take, drop, getD
 use lib.Seq.{getD-take, getD-append-add, length-take-le}
 use lib.Dec.{ltb}
 use borrow.Author.Tests.{ltb-true, ltb-false}
+use Rattle.ground.specs.Bytes.{Bytes}
 use Rattle.ground.specs.Bits.{toBits, bitsOf}
 use Rattle.code.specs.Meaning.{bitsThatCount, fromBits, bytesFrom}
 use Rattle.code.specs.BitLists.{allBits, allBits-take, allBits-drop, allBits-bitsOf, length-bitsOf, fromBits-toBits, toBits-fromBits}
@@ -79,12 +80,8 @@ fromBits-snoc (a ∷ l) b =
     let f : a * (2 ^ length l * 2) ≡ a * 2 ^ length l * 2 = sym (native.Mathlib.Nat.mul-assoc a (2 ^ length l) 2) in
     ap (λ (n : ℕ). a * n + fromBits (l ++ (b ∷ []))) e ∙ omega arith
 
--- every element is a byte
-abbrev pub allBytes : List ℕ → Type 0
-allBytes bytes = (i : ℕ) → getD bytes i 0 < 256
-
 -- bytes come back from their bits
-pub bytes-back : (bytes : List ℕ) → allBytes bytes → bytesFrom (length bytes) (bitsOf bytes) ≡ bytes
+pub bytes-back : (bytes : List ℕ) → Bytes bytes → bytesFrom (length bytes) (bitsOf bytes) ≡ bytes
 unfolding bytesFrom
 bytes-back [] ok = refl
 bytes-back (b ∷ bytes) ok =

@@ -3,26 +3,32 @@
 use mathlib.Core.Path.{_≡_, refl, sym, ap, ap₂, _∙_, subst}
 use mathlib.Core.Bool.{Bool, true, false, _&&_}
 use mathlib.Core.List.{List, [], _∷_, _++_, append-assoc, map}
-use Prim.Native.Nat.{ℕ, zero, suc, _+_, _-_, _^_, _<_, _≤_}
+use Prim.Native.Nat.{ℕ, zero, suc, _+_, _-_, _/_, _%_, _^_, _<_, _≤_}
 use native.Mathlib.Omega.{arith}
 use lib.IntN.{ℤ, natAbs}
 use lib.ListN.{length, length-append, length-take, length-drop, take, drop, replicate, length-replicate, take-append-drop}
 use lib.Seq.{take-take, take-at, drop-at, length-take-le}
-use lib.Dec.{leb}
-use borrow.Author.Tests.{le-leb, leb-true}
+use lib.Dec.{leb, ltb, eqb}
+use borrow.Author.Tests.{le-leb, leb-true, le-ltb}
 use Rattle.ground.specs.Choice.{pick, pick-elim}
 use Rattle.ground.specs.Questions.{both-hold}
-use Rattle.ground.specs.Paper.{Paper, accepted, refused, refused-not, accepted-same}
+use Rattle.ground.specs.Paper.{Paper, accepted, refused, onward, mapped, paper-elim, refused-not, accepted-same}
 use Rattle.ground.specs.Outcome.{Outcome, accept, refuse, Stays}
 use Rattle.ground.specs.Bits.{toBits, bitsOf}
 use Rattle.ground.specs.Putting.{length-put}
-use Rattle.code.specs.Meaning.{Shape, nought, small, mid, big, Parsed, found, ranOut, redundantZero, runTooLong, UnpackValues, bits, value, sign}
-use Rattle.code.specs.Meaning.{magnitude, shapeOfNumber, codeOf, decoded, bitsThatCount, parse, parseAt, answerOf, unpackMeans, inRule}
-use Rattle.code.specs.Meaning.{packMeans, placeMeans, fitsAt, putAt, padded, toByteEnd, bytesWith, dropKnown, largest}
+use Rattle.code.specs.Meaning.{Shape, nought, small, led, Parsed, found, ranOut, redundantZero, runTooLong, ShapeValues, UnpackValues, valuesOf}
+use Rattle.code.specs.Meaning.{bits, value, sign, magnitude, error, width, withParity, onesOf, shapeOfNumber, codeOf, decoded, bitsThatCount, parse}
+use Rattle.code.specs.Meaning.{greatestPlace, largest, answerOf, positionMeans, shapeMeans, numberRead, unpackMeans, inRule, packMeans, placeMeans}
+use Rattle.code.specs.Meaning.{fitsAt, putAt, padded, toByteEnd, bytesWith, dropKnown}
+use Rattle.code.specs.declared.Refusal.{Refusal}
+use Rattle.code.specs.declared.ShapeAnswer.{ShapeAnswer}
+use Rattle.code.specs.declared.ShapeAnswer.the-variants as S
+use Rattle.code.specs.Answers.{shapePaper, refusalPaper, reasonOf}
+use Rattle.code.specs.Promise.{ShapePromise}
 use Rattle.code.specs.BitLists.{allBits, allBits-append, allBits-take, allBits-drop, allBits-toBits, allBits-bitsOf, length-bitsOf}
 use Rattle.code.specs.Positions.{length-bitsThatCount, allBits-bitsThatCount, bits-back, length-bytesFrom}
-use Rattle.code.specs.Shapes.{Drop, drop-of, Valid, parse-bits, found-exact}
-use Rattle.code.specs.Magnitudes.{shape-of-value, number-valid, magnitude-fits, magnitude-positive, sign-bit, signed-back}
+use Rattle.code.specs.Shapes.{Drop, drop-of, Valid, bits-some, parse-bits, found-exact}
+use Rattle.code.specs.Magnitudes.{places, shape-of-value, number-valid, magnitude-fits, magnitude-positive, error-fits, sign-bit, signed-back}
 
 -- so many bits of bytes, from a position on
 abbrev pub bitsAt : List ℕ → ℕ → ℕ → List ℕ
@@ -42,69 +48,100 @@ part-that-counts : (bytes : List ℕ) (at n : ℕ) → at + n ≤ length (bitsTh
 unfolding bitsThatCount
 part-that-counts bytes at n h = part-of-take n at (2 ^ 63) (bitsOf bytes) (omega (arith, length-take (2 ^ 63) (bitsOf bytes)))
 
--- where a shape's bits stand in bytes, that shape is read
-pub reads-shape : (bytes : List ℕ) (at d : ℕ) (shape : Shape) → Valid d shape → at + length (bits d shape) ≤ length (bitsThatCount bytes)
-    → bitsAt bytes at (length (bits d shape)) ≡ bits d shape
-    → parseAt bytes at d ≡ found shape (drop (length (bits d shape)) (drop at (bitsThatCount bytes)))
-reads-shape bytes at d shape v h e =
-    let n : ℕ = length (bits d shape) in
-    ap (parse d)
-    (sym (take-append-drop n (drop at (bitsThatCount bytes)))
-    ∙ ap (λ (k : List ℕ). k ++ drop n (drop at (bitsThatCount bytes))) (part-that-counts bytes at n h ∙ e))
-    ∙ parse-bits d shape (drop n (drop at (bitsThatCount bytes))) v
-
--- and its value and the position after it are answered
-pub unpacks-shape : (bytes : List ℕ) (at d : ℕ) (shape : Shape) → dropKnown d ≡ true → Valid d shape
+-- where a shape's bits stand in bytes, that shape is read, with the position after it
+pub reads-shape : (bytes : List ℕ) (at d : ℕ) (shape : Shape) → dropKnown d ≡ true → Valid greatestPlace d shape
     → at + length (bits d shape) ≤ length (bitsThatCount bytes) → bitsAt bytes at (length (bits d shape)) ≡ bits d shape
-    → unpackMeans bytes at d ≡ accepted (record { value = value d shape; next = at + length (bits d shape) })
-unpacks-shape bytes at d shape t v h e =
-    ap (λ (b : Bool). pick b (answerOf d at (parseAt bytes at d)) (refused 8)) t ∙ ap (answerOf d at) (reads-shape bytes at d shape v h e)
+    → shapeMeans bytes at d ≡ accepted (valuesOf d shape (at + length (bits d shape)))
+reads-shape bytes at d shape t v h e =
+    let n : ℕ = length (bits d shape) in
+    let l : List ℕ = drop at (bitsThatCount bytes) in
+    let inside : ltb (length (bitsThatCount bytes)) at ≡ false = le-ltb (length (bitsThatCount bytes)) at (omega arith) in
+    ap₂ (λ (a b : Bool). pick a (pick b (refused 9) (answerOf d at (parse greatestPlace d l))) (refused 8)) t inside
+    ∙ ap (λ (k : List ℕ). answerOf d at (parse greatestPlace d k))
+    (sym (take-append-drop n l) ∙ ap (λ (k : List ℕ). k ++ drop n l) (part-that-counts bytes at n h ∙ e))
+    ∙ ap (answerOf d at) (parse-bits greatestPlace d shape (drop n l) v)
 
--- what was read at a position: a shape, whose bits stand there
-pub record ReadAt (bytes : List ℕ) (at d : ℕ) (t : UnpackValues) : Type 0 where
+-- what was read at a position: a valid shape, whose bits stand there
+pub record ReadAt (bytes : List ℕ) (at d : ℕ) (v : ShapeValues) : Type 0 where
   pub shape : Shape
-  pub rest : List ℕ
-  pub parsed : parseAt bytes at d ≡ found shape rest
   pub known : dropKnown d ≡ true
-  pub valid : Valid d shape
-  pub number : t .value ≡ value d shape
-  pub after : t .next ≡ at + length (bits d shape)
-  pub inside : t .next ≤ length (bitsThatCount bytes)
+  pub valid : Valid greatestPlace d shape
+  pub values : v ≡ valuesOf d shape (at + length (bits d shape))
+  pub inside : at + length (bits d shape) ≤ length (bitsThatCount bytes)
   pub stands : bitsAt bytes at (length (bits d shape)) ≡ bits d shape
 
 -- an accepted reading read a shape
-pub read-at : (bytes : List ℕ) (at d : ℕ) {t : UnpackValues} → unpackMeans bytes at d ≡ accepted t → ReadAt bytes at d t
-read-at bytes at d {t} e = by-drop (dropKnown d) refl e
+pub read-at : (bytes : List ℕ) (at d : ℕ) {v : ShapeValues} → shapeMeans bytes at d ≡ accepted v → ReadAt bytes at d v
+read-at bytes at d {v} e =
+    pick-elim (λ (p : Paper ShapeValues). p ≡ accepted v → ReadAt bytes at d v) (dropKnown d) (positionMeans bytes at d) (refused 8)
+    (λ k.
+    pick-elim (λ (p : Paper ShapeValues). p ≡ accepted v → ReadAt bytes at d v) (ltb (length (bitsThatCount bytes)) at) (refused 9)
+    (answerOf d at (parse greatestPlace d (drop at (bitsThatCount bytes))))
+    (λ past f. absurd (refused-not f))
+    (λ here. by-shape (parse greatestPlace d (drop at (bitsThatCount bytes))) refl k))
+    (λ k f. absurd (refused-not f))
+    e
   where
-    by-shape : (q : Parsed) → parseAt bytes at d ≡ q → dropKnown d ≡ true → answerOf d at q ≡ accepted t → ReadAt bytes at d t
+    by-shape : (q : Parsed) → parse greatestPlace d (drop at (bitsThatCount bytes)) ≡ q → dropKnown d ≡ true → answerOf d at q ≡ accepted v
+        → ReadAt bytes at d v
     by-shape (found shape rest) p k e =
-        let x = found-exact d (drop at (bitsThatCount bytes)) (allBits-drop at (bitsThatCount bytes) (allBits-bitsThatCount bytes)) p in
+        let l : List ℕ = drop at (bitsThatCount bytes) in
+        let x = found-exact greatestPlace d l (allBits-drop at (bitsThatCount bytes) (allBits-bitsThatCount bytes)) p in
         let n : ℕ = length (bits d shape) in
-        let same : record { value = value d shape; next = at + n } ≡ t = accepted-same e in
-        let long : length (drop at (bitsThatCount bytes)) ≡ n + length rest = ap length (x .0) ∙ length-append (bits d shape) rest in
-        let room : at + n ≤ length (bitsThatCount bytes) = omega (arith, length-drop at (bitsThatCount bytes), Rattle.code.specs.Shapes.bits-some d shape) in
+        let long : length l ≡ n + length rest = ap length (x .0) ∙ length-append (bits d shape) rest in
+        let room : at + n ≤ length (bitsThatCount bytes) = omega (arith, length-drop at (bitsThatCount bytes), bits-some d shape) in
         record {
           shape = shape;
-          rest = rest;
-          parsed = p;
           known = k;
           valid = x .1;
-          number = ap (λ (u : UnpackValues). u .value) (sym same);
-          after = ap (λ (u : UnpackValues). u .next) (sym same);
-          inside = subst (λ (m : ℕ). m ≤ length (bitsThatCount bytes)) (ap (λ (u : UnpackValues). u .next) same) room;
+          values = sym (accepted-same e);
+          inside = room;
           stands = sym (part-that-counts bytes at n room) ∙ ap (take n) (x .0) ∙ take-at (bits d shape) rest n refl;
         }
     by-shape ranOut p k e = absurd (refused-not e)
     by-shape redundantZero p k e = absurd (refused-not e)
     by-shape runTooLong p k e = absurd (refused-not e)
 
-    by-drop : (b : Bool) → dropKnown d ≡ b → pick b (answerOf d at (parseAt bytes at d)) (refused 8) ≡ accepted t → ReadAt bytes at d t
-    by-drop true k e = by-shape (parseAt bytes at d) refl k e
-    by-drop false k e = absurd (refused-not e)
+-- a number that was read: that of a shape that was read
+pub record NumberAt (bytes : List ℕ) (at d : ℕ) (t : UnpackValues) : Type 0 where
+  pub values : ShapeValues
+  pub read : shapeMeans bytes at d ≡ accepted values
+  pub number : t ≡ numberRead values
 
--- the number that was read has the shape that was read
-pub read-shape : {bytes : List ℕ} {at d : ℕ} {t : UnpackValues} (r : ReadAt bytes at d t) → shapeOfNumber d (t .value) ≡ r .shape
-read-shape {d = d} r = ap (shapeOfNumber d) (r .number) ∙ shape-of-value d (r .shape) (drop-of d (r .known)) (r .valid)
+-- every accepted reading is so
+pub number-at : (bytes : List ℕ) (at d : ℕ) {t : UnpackValues} → unpackMeans bytes at d ≡ accepted t → NumberAt bytes at d t
+number-at bytes at d {t} e =
+    paper-elim (λ (p : Paper ShapeValues). mapped numberRead p ≡ accepted t → NumberAt bytes at d t) (shapeMeans bytes at d)
+    (λ v q f. record { values = v; read = q; number = sym (accepted-same f) })
+    (λ n carried q f. absurd (refused-not f))
+    e
+
+-- what a caller computes with: a sign that is a bit and no sign of nothing, a magnitude inside the rule, a small error
+pub record ReadFits (v : ShapeValues) : Type 0 where
+  pub sign-fits : v .sign < 2
+  pub some : v .sign ≡ 1 → 1 ≤ v .magnitude
+  pub in-rule : v .magnitude ≤ largest
+  pub error-few : v .error ≤ 2 ^ (greatestPlace / 2 + 2)
+
+-- so is all that is read
+pub read-fits : (bytes : List ℕ) (at d : ℕ) {v : ShapeValues} → shapeMeans bytes at d ≡ accepted v → ReadFits v
+read-fits bytes at d e =
+    let r = read-at bytes at d e in
+    let shape : Shape = r .shape in
+    let dr : Drop d = drop-of d (r .known) in
+    subst ReadFits (sym (r .values))
+    (record {
+      sign-fits = sign-bit greatestPlace d shape (r .valid);
+      some = magnitude-positive greatestPlace d shape dr (r .valid);
+      in-rule = magnitude-fits greatestPlace places d shape dr (r .valid);
+      error-few = error-fits greatestPlace places d shape dr (r .valid);
+    })
+
+-- a refusal of the shape is handed on by all that goes on from it
+pub hands-on : {A : Type 0} (then : ShapeValues → Paper A) (bytes : List ℕ) (at d : ℕ) (r : ShapeAnswer) (why given : Refusal) → ShapePromise bytes at d r
+    → r ≡ S.Refused given → why ≡ reasonOf r → refusalPaper why ≡ onward then (shapeMeans bytes at d)
+hands-on then bytes at d r why given p e f =
+    ap refusalPaper (f ∙ ap reasonOf e) ∙ sym (ap (λ (a : ShapeAnswer). onward then (shapePaper a)) e) ∙ ap (onward then) (p .answer)
 
 -- ---- codes that are put into bytes
 
@@ -223,23 +260,20 @@ packed-at buffer at v d {n} {left} e =
 pub pack-stays : (buffer : List ℕ) (at : ℕ) (v : ℤ) (d : ℕ) → Stays buffer (packMeans buffer at v d)
 pack-stays buffer at v d = pack-elim buffer at v d (Stays buffer) (λ n left p f. absurd (f refl)) (λ n h f. refl)
 
+-- ones are bits
+allBits-ones : (n : ℕ) → allBits (replicate n 1)
+allBits-ones zero = tt
+allBits-ones (suc n) = (omega arith, allBits-ones n)
+
 -- the bits of a shape are bits
-pub allBits-shape : (d : ℕ) (shape : Shape) → Valid d shape → allBits (bits d shape)
+pub allBits-shape : (d : ℕ) (shape : Shape) → Valid greatestPlace d shape → allBits (bits d shape)
 allBits-shape d nought v = (omega arith, tt)
 allBits-shape d (small s x) v = (omega arith, (v .0, (omega arith, allBits-toBits (4 - d) x)))
-allBits-shape d (mid s x) v = (omega arith, (v .0, (omega arith, (omega arith, allBits-toBits (3 - d) x))))
-allBits-shape d (big s ones p x) v = (
-  omega arith,
-  (
-    v .0,
-    allBits-append (replicate ones 1) (0 ∷ (p ∷ toBits (ones + 1 - d) x)) (ones-fine ones)
-        (omega arith, (v .3, allBits-toBits (ones + 1 - d) x)),
-  ),
-)
-  where
-    ones-fine : (n : ℕ) → allBits (replicate n 1)
-    ones-fine zero = tt
-    ones-fine (suc n) = (omega arith, ones-fine n)
+allBits-shape d (led s k x) v =
+    let l : List ℕ = toBits (width d k) x in
+    let fine : allBits (withParity k l)
+    = pick-elim allBits (eqb k 4) l ((k - 1) % 2 ∷ l) (λ e. allBits-toBits (width d k) x) (λ e. (omega arith, allBits-toBits (width d k) x)) in
+    (omega arith, (v .0, allBits-append (replicate (onesOf k) 1) (0 ∷ withParity k l) (allBits-ones (onesOf k)) (omega arith, fine)))
 
 -- ---- the theorems
 
@@ -253,40 +287,51 @@ pub record SameBits (bytes buffer : List ℕ) (at d : ℕ) (t : UnpackValues) : 
 pub same-bits : (bytes buffer : List ℕ) (at d : ℕ) {t : UnpackValues} → unpackMeans bytes at d ≡ accepted t → t .next ≤ length (bitsThatCount buffer)
     → SameBits bytes buffer at d t
 same-bits bytes buffer at d {t} e room =
-    let r = read-at bytes at d e in
+    let n = number-at bytes at d e in
+    let v : ShapeValues = n .values in
+    let r = read-at bytes at d (n .read) in
+    let f = read-fits bytes at d (n .read) in
     let shape : Shape = r .shape in
-    let dr : Drop d = drop-of d (r .known) in
-    let code : codeOf d (t .value) ≡ bits d shape = ap (codeOf d) (r .number) ∙ ap (bits d) (shape-of-value d shape dr (r .valid)) in
-    let back = signed-back (sign shape) (magnitude d shape) (sign-bit d shape (r .valid)) (magnitude-positive d shape dr (r .valid)) in
+    let read : t ≡ record { value = value d shape; next = at + length (bits d shape) } = n .number ∙ ap numberRead (r .values) in
+    let after : t .next ≡ at + length (bits d shape) = ap (λ (u : UnpackValues). u .next) read in
+    let code : codeOf d (t .value) ≡ bits d shape
+    = ap (λ (u : UnpackValues). codeOf d (u .value)) read
+    ∙ ap (bits d) (shape-of-value greatestPlace places d shape (drop-of d (r .known)) (r .valid)) in
     let fits : natAbs (t .value) ≤ largest
-    = subst (λ (n : ℕ). n ≤ largest) (sym (ap natAbs (r .number) ∙ back .1)) (magnitude-fits d shape dr (r .valid)) in
+    = subst (λ (m : ℕ). m ≤ largest)
+    (sym (ap (λ (u : UnpackValues). natAbs (u .value)) (n .number) ∙ signed-back (v .sign) (v .magnitude) (f .sign-fits) (f .some) .1)) (f .in-rule) in
     let long : length (codeOf d (t .value)) ≡ length (bits d shape) = ap length code in
-    let next-is : at + length (codeOf d (t .value)) ≡ t .next = omega (arith, r .after) in
-    let n-is : t .next - at ≡ length (bits d shape) = omega (arith, r .after) in
+    let next-is : at + length (codeOf d (t .value)) ≡ t .next = omega arith in
+    let n-is : t .next - at ≡ length (bits d shape) = omega arith in
     record {
       left = bytesWith buffer at (codeOf d (t .value));
       packed =
-          packs buffer at (t .value) d (r .known) fits (omega (arith, r .after))
-          ∙ ap (λ (n : ℕ). accept n (bytesWith buffer at (codeOf d (t .value)))) next-is;
+          packs buffer at (t .value) d (r .known) fits (omega arith)
+          ∙ ap (λ (m : ℕ). accept m (bytesWith buffer at (codeOf d (t .value)))) next-is;
       same =
-          ap₂ (λ (k : List ℕ) (n : ℕ). bitsAt k at n) (ap (bytesWith buffer at) code) n-is
-          ∙ put-stands buffer at (bits d shape) (omega (arith, r .after)) (allBits-shape d shape (r .valid))
+          ap₂ (λ (k : List ℕ) (m : ℕ). bitsAt k at m) (ap (bytesWith buffer at) code) n-is
+          ∙ put-stands buffer at (bits d shape) (omega arith) (allBits-shape d shape (r .valid))
           ∙ sym (r .stands)
           ∙ ap (bitsAt bytes at) (sym n-is);
     }
 
+-- the shape of a number that was packed is read, with the position that packing answered
+pub shape-reads-back : (buffer : List ℕ) (at : ℕ) (v : ℤ) (d : ℕ) {n : ℕ} {left : List ℕ} → packMeans buffer at v d ≡ accept n left
+    → shapeMeans left at d ≡ accepted (valuesOf d (shapeOfNumber d v) n)
+shape-reads-back buffer at v d e =
+    let p = packed-at buffer at v d e in
+    let valid = number-valid greatestPlace places d v (drop-of d (p .known)) (p .small) in
+    let fine = allBits-shape d (shapeOfNumber d v) valid in
+    ap (λ (k : List ℕ). shapeMeans k at d) (p .leaves)
+    ∙ reads-shape (bytesWith buffer at (codeOf d v)) at d (shapeOfNumber d v) (p .known) valid
+    (omega (arith, p .room, put-counts buffer at (codeOf d v) (p .room) fine))
+    (put-stands buffer at (codeOf d v) (p .room) fine)
+    ∙ ap (λ (m : ℕ). accepted (valuesOf d (shapeOfNumber d v) m)) (sym (p .after))
+
 -- "what pack wrote unpack reads, with the same next position, as the decoded number"
 pub reads-back : (buffer : List ℕ) (at : ℕ) (v : ℤ) (d : ℕ) {n : ℕ} {left : List ℕ} → packMeans buffer at v d ≡ accept n left
     → unpackMeans left at d ≡ accepted (record { value = decoded d v; next = n })
-reads-back buffer at v d {n} {left} e =
-    let p = packed-at buffer at v d e in
-    let valid = number-valid d v (drop-of d (p .known)) (p .small) in
-    let fine = allBits-shape d (shapeOfNumber d v) valid in
-    ap (λ (k : List ℕ). unpackMeans k at d) (p .leaves)
-    ∙ unpacks-shape (bytesWith buffer at (codeOf d v)) at d (shapeOfNumber d v) (p .known) valid
-    (omega (arith, p .room, put-counts buffer at (codeOf d v) (p .room) fine))
-    (put-stands buffer at (codeOf d v) (p .room) fine)
-    ∙ ap (λ (m : ℕ). accepted (record { value = decoded d v; next = m })) (sym (p .after))
+reads-back buffer at v d e = ap (mapped numberRead) (shape-reads-back buffer at v d e)
 
 -- numbers written one after the other, each at the position that the last answered
 pub data Wrote (d : ℕ) : List ℕ → ℕ → List ℤ → List ℕ → ℕ → Type 0 where
@@ -314,7 +359,7 @@ keeps-earlier buffer last at after h e = sym (take-take at after (bitsOf last) h
 pack-keeps : (buffer : List ℕ) (at : ℕ) (v : ℤ) (d : ℕ) {n : ℕ} {left : List ℕ} → packMeans buffer at v d ≡ accept n left → Keeps buffer left at
 pack-keeps buffer at v d e =
     let p = packed-at buffer at v d e in
-    let fine = allBits-shape d (shapeOfNumber d v) (number-valid d v (drop-of d (p .known)) (p .small)) in
+    let fine = allBits-shape d (shapeOfNumber d v) (number-valid greatestPlace places d v (drop-of d (p .known)) (p .small)) in
     subst (λ (k : List ℕ). Keeps buffer k at) (sym (p .leaves))
     (record { before = put-keeps buffer at (codeOf d v) (p .room) fine; counts = put-counts buffer at (codeOf d v) (p .room) fine })
 
@@ -348,7 +393,7 @@ run-reads-back {d} (next {buffer = buffer} {left = left} {last = last} {at = at}
         → unpackMeans last at d ≡ accepted (record { value = decoded d v; next = after })
     first e keeps =
         let p = packed-at buffer at v d e in
-        let valid = number-valid d v (drop-of d (p .known)) (p .small) in
+        let valid = number-valid greatestPlace places d v (drop-of d (p .known)) (p .small) in
         let fine = allBits-shape d (shapeOfNumber d v) valid in
         let n : ℕ = length (codeOf d v) in
         let same : take (at + n) (bitsOf last) ≡ take (at + n) (bitsOf (bytesWith buffer at (codeOf d v)))
@@ -356,6 +401,7 @@ run-reads-back {d} (next {buffer = buffer} {left = left} {last = last} {at = at}
         ∙ ap (λ (k : List ℕ). take (at + n) (bitsOf k)) (p .leaves) in
         let many : length (bitsThatCount last) ≡ length (bitsThatCount buffer)
         = keeps .counts ∙ ap (λ (k : List ℕ). length (bitsThatCount k)) (p .leaves) ∙ put-counts buffer at (codeOf d v) (p .room) fine in
-        unpacks-shape last at d (shapeOfNumber d v) (p .known) valid (omega (arith, p .room, many))
-        (kept-at (bytesWith buffer at (codeOf d v)) last at n same ∙ put-stands buffer at (codeOf d v) (p .room) fine)
+        ap (mapped numberRead)
+        (reads-shape last at d (shapeOfNumber d v) (p .known) valid (omega (arith, p .room, many))
+        (kept-at (bytesWith buffer at (codeOf d v)) last at n same ∙ put-stands buffer at (codeOf d v) (p .room) fine))
         ∙ ap (λ (m : ℕ). accepted (record { value = decoded d v; next = m })) (sym (p .after))

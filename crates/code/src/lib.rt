@@ -6,8 +6,8 @@ ghost use lib.IntN.{natAbs};
 ghost use lib.ListN.{length};
 ghost use Rattle.ground.specs.Paper.{numberOf};
 ghost use Rattle.code.specs.Meaning.{bitsThatCount, dropKnown, largest};
-ghost use Rattle.code.specs.Answers.{packedPaper, unpackedPaper};
-ghost use Rattle.code.specs.Promise.{SignPromise};
+ghost use Rattle.code.specs.Answers.{packedPaper, unpackedPaper, refusalNumber, reasonOf};
+ghost use Rattle.code.specs.Promise.{SignPromise, PowerPromise, BitPromise};
 
 // The largest magnitude that is packed.
 pub const LARGEST: u32 = 33554431;
@@ -19,13 +19,29 @@ pub enum Packed {
     TooShort,
 }
 
-// What reading a code answers: the number and the next bit position, or why there is none.
-pub enum Unpacked {
-    Number { value: i32, next: u64 },
+// Why a code is not read: a drop or a number outside the rule, bits that ran out, a redundant zero, a run of ones too long.
+pub enum Refusal {
     OutsideRule,
     RanOut,
     RedundantZero,
     RunTooLong,
+}
+
+// What reading a code's shape answers: its sign bit, its decoded magnitude, its error and the next bit position, or why there is none.
+pub enum ShapeAnswer {
+    Shape {
+        sign: u32,
+        magnitude: u32,
+        error: u32,
+        next: u64,
+    },
+    Refused(Refusal),
+}
+
+// What reading a code answers: the number and the next bit position, or why there is none.
+pub enum Unpacked {
+    Number { value: i32, next: u64 },
+    Refused(Refusal),
 }
 
 // Document 01's number of what writing answered, 0 where a code was written.
@@ -45,10 +61,34 @@ pub fn unpacked_number(a: Unpacked) -> u8
 {
     match a {
         Unpacked::Number { value: _, next: _ } => 0,
-        Unpacked::OutsideRule => 8,
-        Unpacked::RanOut => 9,
-        Unpacked::RedundantZero => 10,
-        Unpacked::RunTooLong => 11,
+        Unpacked::Refused(why) => refusal_number(why),
+    }
+}
+
+// Document 01's number of a refusal.
+pub fn refusal_number(why: Refusal) -> u8
+    ensures { λ r. ⌜ r ≡ refusalNumber why ⌝ }
+{
+    match why {
+        Refusal::OutsideRule => 8,
+        Refusal::RanOut => 9,
+        Refusal::RedundantZero => 10,
+        Refusal::RunTooLong => 11,
+    }
+}
+
+// Why no shape was read; of one that was read nothing is asked.
+pub fn reason(a: ShapeAnswer) -> Refusal
+    ensures { λ r. ⌜ r ≡ reasonOf a ⌝ }
+{
+    match a {
+        ShapeAnswer::Refused(why) => why,
+        ShapeAnswer::Shape {
+            sign: _,
+            magnitude: _,
+            error: _,
+            next: _,
+        } => Refusal::OutsideRule,
     }
 }
 
@@ -67,7 +107,7 @@ pub fn sign(v: i32) -> u32
     if v < 0 { 1 } else { 0 }
 }
 
-// Only drop 0 and drop 3 are taken.
+// Whether a drop is known: only 0 and 3 are.
 pub fn drop_known(drop: u8) -> bool
     ensures { λ r. ⌜ r ≡ dropKnown drop ⌝ }
 {
@@ -101,5 +141,23 @@ pub fn end_of(bytes: &[u8]) -> u64
         n * 8
     } else {
         9223372036854775808
+    }
+}
+
+// A power of two; 0 where 32 bits do not hold it.
+pub fn power(k: u32) -> u32
+    ensures { λ r. ⌜ PowerPromise k r ⌝ }
+{
+    if k < 32 { 1 << k } else { 0 }
+}
+
+// A bit of a byte, the most significant first; the last bit at every place from 8 on.
+pub fn bit_of(byte: u8, place: u8) -> u8
+    ensures { λ r. ⌜ BitPromise byte place r ⌝ }
+{
+    if place < 8 {
+        (byte >> (7 - place)) % 2
+    } else {
+        byte % 2
     }
 }

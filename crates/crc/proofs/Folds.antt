@@ -73,6 +73,7 @@ step-zero : (r : ℕ) → step r 0 ≡ shifts 8 r
 unfolding step
 step-zero r = ap (shifts 8) (xor-zero-r r)
 
+-- a byte of zeros leaves a register of zeros
 step-none : step 0 0 ≡ 0
 unfolding step shift
 step-none = refl
@@ -169,9 +170,9 @@ unfolding afterFour
 afterFour-first b c d e = ap (λ (x : ℕ). afterWord (afterWord (afterWord (afterWord x b) c) d) e) afterWord-none
 
 -- the fold one word further
-pub folds : (a b c d e u v : ℕ) → a < 2 ^ 32 → b < 2 ^ 32 → c < 2 ^ 32 → d < 2 ^ 32 → e < 2 ^ 32 → u ≡ a / 2 ^ 24 → v ≡ a % 2 ^ 24 * 2 ^ 8
+pub folds : (a b c d e : ℕ) {u v : ℕ} → a < 2 ^ 32 → b < 2 ^ 32 → c < 2 ^ 32 → d < 2 ^ 32 → e < 2 ^ 32 → u ≡ a / 2 ^ 24 → v ≡ a % 2 ^ 24 * 2 ^ 8
     → afterFour (bitXor b a) (bitXor c u) (bitXor d v) (bitXor e a) ≡ afterWord (afterFour a b c d) e
-folds a b c d e u v ha hb hc hd he eu ev =
+folds a b c d e {u} {v} ha hb hc hd he eu ev =
     let hu : u < 2 ^ 32 = omega arith in
     let hv : v < 2 ^ 32 = omega arith in
     let p = bitXor b a in

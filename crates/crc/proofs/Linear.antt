@@ -62,6 +62,7 @@ shift-small a h =
     let held : a * 2 < 2 ^ 16 = omega arith in
     ap₂ bitXor (mod-eq-of-lt held) (ap polynomial (div-eq-of-lt h)) ∙ xor-zero-r (a * 2)
 
+-- a register whose bits do not fall out only moves up
 pub shifts-small : (k a : ℕ) → a * 2 ^ k < 2 ^ 16 → shifts k a ≡ a * 2 ^ k
 shifts-small zero a h = sym (mul-one a)
 shifts-small (suc k) a h =

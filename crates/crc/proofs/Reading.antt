@@ -14,7 +14,7 @@ use lib.Seq.{drop-cons}
 use Rattle.crc.specs.Meaning.{step, run}
 use Rattle.crc.specs.Folding.{sixteen, afterWord, afterFour, Pair, Word}
 use Rattle.crc.proofs.Sixteen.{sixteen-lt, two-steps}
-use Rattle.crc.proofs.Folds.{afterWord-lt, afterFour-lt}
+use Rattle.crc.proofs.Folds.{afterWord-lt}
 
 -- the register takes the next byte
 pub run-next : (r : ℕ) (l : List ℕ) (i : ℕ) → i < length l → run r (drop i l) ≡ run (step r (getD l i 0)) (drop (i + 1) l)
@@ -25,18 +25,18 @@ pub run-done : (r : ℕ) (l : List ℕ) (i : ℕ) → length l ≤ i → r ≡ r
 run-done r l i h = rw (drop-of-length-le l h)
 
 -- a last byte is left
-pub run-last : (r s : ℕ) (l : List ℕ) (i : ℕ) → i < length l → length l ≤ i + 1 → s ≡ step r (getD l i 0) → s ≡ run r (drop i l)
-run-last r s l i h k e = e ∙ run-done (step r (getD l i 0)) l (i + 1) k ∙ sym (run-next r l i h)
+pub run-last : {s : ℕ} (r : ℕ) (l : List ℕ) (i : ℕ) → i < length l → length l ≤ i + 1 → s ≡ step r (getD l i 0) → s ≡ run r (drop i l)
+run-last r l i h k e = e ∙ run-done (step r (getD l i 0)) l (i + 1) k ∙ sym (run-next r l i h)
 
 -- the register two bytes further
-pub two-on : (l : List ℕ) (i w k s r : ℕ) → Pair l i w → k < 2 ^ 16 → s ≡ sixteen (bitXor k w) → run k (drop i l) ≡ r
+pub two-on : {l : List ℕ} {i w s r : ℕ} (k : ℕ) → Pair l i w → k < 2 ^ 16 → s ≡ sixteen (bitXor k w) → run k (drop i l) ≡ r
     → run s (drop (i + 2) l) ≡ r
-two-on l i w k s r h small e inv = ap (λ (x : ℕ). run x (drop (i + 2) l)) e ∙ sym (h .goes k small) ∙ inv
+two-on {l} {i} k h small e inv = ap (λ (x : ℕ). run x (drop (i + 2) l)) e ∙ sym (h .goes k small) ∙ inv
 
 -- the number of two bytes takes a register where they take it
-pub pair-goes : (l : List ℕ) (i x y : ℕ) → i + 2 ≤ length l → x ≡ getD l i 0 → y ≡ getD l (i + 1) 0 → x < 256 → y < 256
+pub pair-goes : {l : List ℕ} {i x y : ℕ} → i + 2 ≤ length l → x ≡ getD l i 0 → y ≡ getD l (i + 1) 0 → x < 256 → y < 256
     → Pair l i (x * 256 + y)
-pair-goes l i x y h ex ey hx hy =
+pair-goes {l} {i} {x} {y} h ex ey hx hy =
     let first : i < length l = omega arith in
     let second : i + 1 < length l = omega arith in
     record {
@@ -50,9 +50,9 @@ pair-goes l i x y h ex ey hx hy =
     }
 
 -- the word of two numbers takes a register where their bytes take it
-pub word-goes : (l : List ℕ) (i p q : ℕ) → Pair l i p → Pair l (i + 2) q → Word l i (p * 65536 + q)
+pub word-goes : {l : List ℕ} {i p q : ℕ} → Pair l i p → Pair l (i + 2) q → Word l i (p * 65536 + q)
 unfolding afterWord
-word-goes l i p q hp hq =
+word-goes {l} {i} {p} {q} hp hq =
     let up : p < 2 ^ 16 = hp .small in
     let down : q < 2 ^ 16 = hq .small in
     record {
@@ -66,10 +66,10 @@ word-goes l i p q hp hq =
     }
 
 -- the fold of the first sixteen bytes
-pub opens : (l : List ℕ) (a b c d f : ℕ) → Word l 0 a → afterWord 0 f ≡ afterWord 0xffff a → Word l 4 b → Word l 8 c → Word l 12 d
+pub opens : {l : List ℕ} {a b c d : ℕ} (f : ℕ) → Word l 0 a → afterWord 0 f ≡ afterWord 0xffff a → Word l 4 b → Word l 8 c → Word l 12 d
     → run (afterFour f b c d) (drop 16 l) ≡ run 0xffff l
 unfolding afterFour
-opens l a b c d f ha e hb hc hd =
+opens {l} {a} {b} {c} {d} f ha e hb hc hd =
     ap (λ (r : ℕ). run (afterWord (afterWord (afterWord r b) c) d) (drop 16 l)) e
     ∙ sym
     (ha .goes 0xffff (lit< tt)
@@ -78,20 +78,19 @@ opens l a b c d f ha e hb hc hd =
     ∙ hd .goes (afterWord (afterWord (afterWord 0xffff a) b) c) (afterWord-lt (afterWord (afterWord 0xffff a) b) c))
 
 -- the fold one word further
-pub goes-on : (l : List ℕ) (i w s a b c d r : ℕ) → Word l i w → s ≡ afterWord (afterFour a b c d) w → run (afterFour a b c d) (drop i l) ≡ r
+pub goes-on : {l : List ℕ} {i w s r : ℕ} (k : ℕ) → Word l i w → k < 2 ^ 16 → s ≡ afterWord k w → run k (drop i l) ≡ r
     → run s (drop (i + 4) l) ≡ r
-goes-on l i w s a b c d r h e inv =
-    ap (λ (x : ℕ). run x (drop (i + 4) l)) e ∙ sym (h .goes (afterFour a b c d) (afterFour-lt a b c d)) ∙ inv
+goes-on {l} {i} k h small e inv = ap (λ (x : ℕ). run x (drop (i + 4) l)) e ∙ sym (h .goes k small) ∙ inv
 
 -- the register after the bytes that a fold stands for
-pub closes : (a b c d p q r s : ℕ) → p ≡ afterWord 0 a → q ≡ afterWord p b → r ≡ afterWord q c → s ≡ afterWord r d → s ≡ afterFour a b c d
+pub closes : (a b c d : ℕ) {p q r s : ℕ} → p ≡ afterWord 0 a → q ≡ afterWord p b → r ≡ afterWord q c → s ≡ afterWord r d → s ≡ afterFour a b c d
 unfolding afterFour
-closes a b c d p q r s ep eq er es =
+closes a b c d ep eq er es =
     es ∙ ap (λ (x : ℕ). afterWord x d) (er ∙ ap (λ (x : ℕ). afterWord x c) (eq ∙ ap (λ (x : ℕ). afterWord x b) ep))
 
 -- the register after a word, by its halves
-pub goes-through : (r w h l p q : ℕ) → h ≡ w / 2 ^ 16 → p ≡ sixteen (bitXor r h) → l ≡ w % 2 ^ 16 → q ≡ sixteen (bitXor p l)
+pub goes-through : (r w : ℕ) {h l p q : ℕ} → h ≡ w / 2 ^ 16 → p ≡ sixteen (bitXor r h) → l ≡ w % 2 ^ 16 → q ≡ sixteen (bitXor p l)
     → q ≡ afterWord r w
 unfolding afterWord
-goes-through r w h l p q eh ep el eq =
+goes-through r w eh ep el eq =
     eq ∙ ap₂ (λ (x y : ℕ). sixteen (bitXor x y)) (ep ∙ ap (λ (x : ℕ). sixteen (bitXor r x)) eh) el

@@ -26,6 +26,7 @@ three : (a b c d e f : ℕ) → bitXor (bitXor (bitXor a b) (bitXor c d)) (bitXo
 three a b c d e f =
     ap (λ (x : ℕ). bitXor x (bitXor e f)) (xor-middle a b c d) ∙ xor-middle (bitXor a c) (bitXor b d) e f
 
+-- of two registers that hold it, the sum holds it
 holds-xor : (a b : ℕ) → a < 2 ^ 16 → b < 2 ^ 16 → Holds a → Holds b → Holds (bitXor a b)
 holds-xor a b ha hb pa pb =
     shifts-xor 16 a b ha hb
@@ -33,6 +34,7 @@ holds-xor a b ha hb pa pb =
     ∙ sym (three (shifts 12 a) (shifts 12 b) (shifts 5 a) (shifts 5 b) a b)
     ∙ ap (λ (x : ℕ). bitXor x (bitXor a b)) (ap₂ bitXor (sym (shifts-xor 12 a b ha hb)) (sym (shifts-xor 5 a b ha hb)))
 
+-- one bit further it still holds
 holds-shift : (a : ℕ) → a < 2 ^ 16 → Holds a → Holds (shift a)
 holds-shift a h p =
     let twelve : shifts 12 a < 2 ^ 16 = shifts-lt 12 a h in
@@ -41,6 +43,7 @@ holds-shift a h p =
     ∙ shift-xor (bitXor (shifts 12 a) (shifts 5 a)) a (xor-lt 16 (shifts 12 a) (shifts 5 a) twelve five) h
     ∙ ap (λ (x : ℕ). bitXor x (shift a)) (shift-xor (shifts 12 a) (shifts 5 a) twelve five)
 
+-- it holds of one bit
 holds-bit : (b : ℕ) → b < 2 → Holds b
 unfolding shift
 holds-bit zero h = refl
@@ -54,6 +57,7 @@ digits n h =
     ∙ xor-shifted (n / 2) 1 (n % 2) (mod-lt n (zero-lt-suc 1))
     ∙ split n 1
 
+-- it holds of every register, bit by bit
 holds : (n : ℕ) → n < 2 ^ 16 → Holds n
 holds =
     bin-ind (λ (n : ℕ). n < 2 ^ 16 → Holds n) (λ h. holds-bit 0 (zero-lt-suc 1))

@@ -44,6 +44,7 @@ turn x h =
 field-xor : (j k a b : ℕ) → bitXor a b % 2 ^ j * 2 ^ k ≡ bitXor (a % 2 ^ j * 2 ^ k) (b % 2 ^ j * 2 ^ k)
 field-xor j k a b = ap (λ (x : ℕ). x * 2 ^ k) (xor-mod a b j) ∙ moved-xor k (a % 2 ^ j) (b % 2 ^ j)
 
+-- what stays of a sum is the sum of what stays
 spread-xor : (a b : ℕ) → spreadOf (bitXor a b) ≡ bitXor (spreadOf a) (spreadOf b)
 spread-xor a b =
     ap (λ (x : ℕ). bitXor x (bitXor a b))
@@ -51,6 +52,7 @@ spread-xor a b =
     ∙ xor-middle (a % 2 ^ 4 * 2 ^ 12) (b % 2 ^ 4 * 2 ^ 12) (a % 2 ^ 11 * 2 ^ 5) (b % 2 ^ 11 * 2 ^ 5))
     ∙ xor-middle (bitXor (a % 2 ^ 4 * 2 ^ 12) (a % 2 ^ 11 * 2 ^ 5)) (bitXor (b % 2 ^ 4 * 2 ^ 12) (b % 2 ^ 11 * 2 ^ 5)) a b
 
+-- nothing goes through a register of zeros
 sixteen-zero : sixteen (bitXor 0 0) ≡ 0
 unfolding sixteen
 sixteen-zero = shifts-zero 16
@@ -60,9 +62,9 @@ carry-lt : (j x : ℕ) → x < 2 ^ (j + 4) → x < 2 ^ (j + 11) → carryOf x < 
 carry-lt j x h k = xor-lt j (x / 2 ^ 4) (x / 2 ^ 11) (shr-lt j 4 h) (shr-lt j 11 k)
 
 -- after four turns nothing falls out
-pub sixteen-turns : (x a b c : ℕ) → x < 2 ^ 16 → a ≡ carryOf x → b ≡ carryOf a → c ≡ carryOf b
+pub sixteen-turns : (x : ℕ) {a b c : ℕ} → x < 2 ^ 16 → a ≡ carryOf x → b ≡ carryOf a → c ≡ carryOf b
     → spreadOf (bitXor (bitXor (bitXor x a) b) c) ≡ sixteen x
-sixteen-turns x a b c hx ea eb ec =
+sixteen-turns x {a} {b} {c} hx ea eb ec =
     let ha : a < 2 ^ 12 = subst (λ (y : ℕ). y < 2 ^ 12) (sym ea) (carry-lt 12 x hx (omega arith)) in
     let hb : b < 2 ^ 8 = subst (λ (y : ℕ). y < 2 ^ 8) (sym eb) (carry-lt 8 a ha (omega arith)) in
     let hc : c < 2 ^ 4 = subst (λ (y : ℕ). y < 2 ^ 4) (sym ec) (carry-lt 4 b hb (omega arith)) in

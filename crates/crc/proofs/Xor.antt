@@ -14,6 +14,7 @@ differ-lt (suc zero) (suc zero) hx hy = zero-lt-suc 1
 differ-lt (suc zero) (suc (suc y)) hx hy = absurd (not-suc-le-zero (le-of-suc-le-suc (le-of-suc-le-suc hy)))
 differ-lt (suc (suc x)) y hx hy = absurd (not-suc-le-zero (le-of-suc-le-suc (le-of-suc-le-suc hx)))
 
+-- of three bits it does not matter which two are held against each other first
 differ-assoc : (x y z : ℕ) → x < 2 → y < 2 → z < 2 → differ (differ x y) z ≡ differ x (differ y z)
 differ-assoc zero y z hx hy hz = refl
 differ-assoc (suc zero) zero z hx hy hz = refl
@@ -23,6 +24,7 @@ differ-assoc (suc zero) (suc zero) (suc (suc z)) hx hy hz = absurd (not-suc-le-z
 differ-assoc (suc zero) (suc (suc y)) z hx hy hz = absurd (not-suc-le-zero (le-of-suc-le-suc (le-of-suc-le-suc hy)))
 differ-assoc (suc (suc x)) y z hx hy hz = absurd (not-suc-le-zero (le-of-suc-le-suc (le-of-suc-le-suc hx)))
 
+-- a last bit is 0 or 1
 digit : (a : ℕ) → a % 2 < 2
 digit a = mod-lt a (zero-lt-suc 1)
 
@@ -32,14 +34,17 @@ xor-half a b =
     ap (λ (x : ℕ). x / 2) (xor-step a b)
     ∙ digits-div (bitXor (a / 2) (b / 2)) (differ-lt (a % 2) (b % 2) (digit a) (digit b))
 
+-- the last bit of a sum
 xor-last : (a b : ℕ) → bitXor a b % 2 ≡ differ (a % 2) (b % 2)
 xor-last a b =
     ap (λ (x : ℕ). x % 2) (xor-step a b)
     ∙ digits-mod (bitXor (a / 2) (b / 2)) (differ-lt (a % 2) (b % 2) (digit a) (digit b))
 
+-- two halves that are the same
 join : {r q s t : ℕ} → r ≡ q → s ≡ t → r * 2 + s ≡ q * 2 + t
 join p q = ap₂ (λ (x y : ℕ). x * 2 + y) p q
 
+-- of three numbers it does not matter which two are added first
 pub xor-assoc : (a b c : ℕ) → bitXor (bitXor a b) c ≡ bitXor a (bitXor b c)
 xor-assoc a =
     bin-ind (λ (n : ℕ). (b c : ℕ) → bitXor (bitXor n b) c ≡ bitXor n (bitXor b c))

@@ -13,18 +13,22 @@ polynomial-lt : (b : ℕ) → polynomial b < 2 ^ 16
 polynomial-lt zero = lit< tt
 polynomial-lt (suc b) = lit< tt
 
+-- after one bit
 pub shift-lt : (a : ℕ) → shift a < 2 ^ 16
 unfolding shift
 shift-lt a = xor-lt 16 (a * 2 % 2 ^ 16) (polynomial (a / 2 ^ 15)) (mod-lt (a * 2) (pow-pos 16)) (polynomial-lt (a / 2 ^ 15))
 
+-- after so many bits
 pub shifts-lt : (k a : ℕ) → a < 2 ^ 16 → shifts k a < 2 ^ 16
 shifts-lt zero a h = h
 shifts-lt (suc k) a h = shifts-lt k (shift a) (shift-lt a)
 
+-- after one byte
 pub step-lt : (r b : ℕ) → step r b < 2 ^ 16
 unfolding step
 step-lt r b = shifts-lt 7 (shift (bitXor r (b * 2 ^ 8))) (shift-lt (bitXor r (b * 2 ^ 8)))
 
+-- after every byte
 run-lt : (r : ℕ) (bytes : List ℕ) → r < 2 ^ 16 → run r bytes < 2 ^ 16
 run-lt r [] h = h
 run-lt r (b ∷ bs) h = run-lt (step r b) bs (step-lt r b)

@@ -1,6 +1,5 @@
 pub mod Meaning
 pub mod Laws
-pub mod Bytes
 pub mod Folding
 pub mod Promise
 pub mod OneOutcome

@@ -13,7 +13,7 @@ use Rattle.ground.specs.Words.{number, bytesOf, wordAt, number-bytesOf}
 use Rattle.ground.specs.Meaning.{lies}
 use Rattle.crc.specs.Meaning.{checksumOf, sealedOf, sealedAt, sealedIn}
 use Rattle.crc.specs.Laws.{checksum-lt}
-use Rattle.crc.specs.Bytes.{Bytes, take-parts, word-back}
+use Rattle.ground.specs.Bytes.{Bytes, take-parts, word-back}
 use Rattle.crc.specs.Promise.{SealPromise}
 
 -- a sealed run is two bytes longer

@@ -3,7 +3,7 @@
 -- Assumes nothing.
 use mathlib.Core.Path.{_≡_, refl, sym, ap, ap₂, subst, _∙_}
 use mathlib.Core.Bool.{true, false, not}
-use mathlib.Core.List.{List, _∷_, [], _++_}
+use mathlib.Core.List.{List, [], _∷_}
 use Prim.Native.Nat.{ℕ, _+_, _^_, _≤_}
 use native.Mathlib.Nat.{add-assoc, div-add-mod'}
 use native.Mathlib.Omega.{arith}
@@ -14,8 +14,7 @@ use Rattle.ground.specs.Choice.{pick-elim}
 use Rattle.ground.specs.Paper.{Paper, accepted, accepted-same, refused-not}
 use Rattle.ground.specs.Questions.{answered-yes, both-hold}
 use Rattle.ground.specs.Words.{bytesOf, wordAt}
-use Rattle.crc.specs.Meaning.{sealedOf}
-use Rattle.crc.specs.Bytes.{Bytes, number-back, word-back, take-two, take-parts}
+use Rattle.ground.specs.Bytes.{Bytes, number-back, word-back, take-two, take-parts}
 use Rattle.crc.specs.Sealing.{sealed-is}
 use Rattle.message.specs.Meaning as message
 use Rattle.message.specs.Meaning.{ReadValues, addressAt, checked, marked, messageOf, readMeans, sizeAt, tagAt, valueAt}

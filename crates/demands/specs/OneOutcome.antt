@@ -12,9 +12,9 @@ pub use Rattle.packet.specs.OneOutcome.{written-number-one as packet-written-nu
 -- messages
 pub use Rattle.message.specs.OneOutcome.{read-one as message-read-one, write-one as message-write-one, read-number-one}
 pub use Rattle.message.specs.OneOutcome.{written-number-one as message-written-number-one}
--- packed codes: pack; unpack, and a reader's next_code and read_at; magnitude; sign; the small questions that both ask
-pub use Rattle.code.specs.OneOutcome.{pack-one, unpack-one, magnitude-one, sign-one, packed-number-one, unpacked-number-one}
-pub use Rattle.code.specs.OneOutcome.{drop-known-one, in-rule-one, wide-one, end-of-one}
+-- packed codes: pack; shape; unpack, and a reader's next_code, read_at and read_moved; magnitude; sign; the small questions that both ask
+pub use Rattle.code.specs.OneOutcome.{pack-one, shape-one, unpack-one, magnitude-one, sign-one, packed-number-one, unpacked-number-one}
+pub use Rattle.code.specs.OneOutcome.{drop-known-one, in-rule-one, wide-one, end-of-one, power-one, bit-of-one, refusal-number-one, reason-one}
 -- the reader: reader_at and moved_to
 pub use Rattle.reader.specs.OneOutcome.{reader-one}
 -- plain formats
@@ -23,13 +23,13 @@ pub use Rattle.format.specs.OneOutcome.{code16-number-one, code8-number-one, co
 -- the cadence
 pub use Rattle.cadence.specs.OneOutcome.{seconds-one, beginning-one, ending-one, length-number-one, level-number-one}
 -- readings and rates
-pub use Rattle.rate.specs.OneOutcome.{reading-one, rate-one, reading-number-one, rate-number-one, refusal-number-one}
+pub use Rattle.rate.specs.OneOutcome.{reading-one, rate-one, reading-number-one, rate-number-one}
 -- two pages of counters
 pub use Rattle.pages.specs.OneOutcome.{sized-one, clear-one, count-one, take-one}
 -- histogram memory
 pub use Rattle.histogram.specs.OneOutcome.{open-one, increment-one, flip-one, ask-one, open-number-one, increment-number-one, flip-number-one, ask-number-one}
 -- the code program's lines
-pub use Rattle.lines.specs.OneOutcome.{fresh-one, taken-one, header-one as lines-header-one, put-answer-one, run-one}
+pub use Rattle.lines.specs.OneOutcome.{fresh-one, with-byte-one, header-one as lines-header-one, put-answer-one, run-one}
 -- what the code program prints with
 pub use Rattle.lines.specs.OneOutcome.{print-header-one as printing-header-one, print-piece-one as piece-one, print-last-one as last-one}
 -- the C interface: packets and messages; the checksum has the promise above

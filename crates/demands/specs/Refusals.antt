@@ -35,7 +35,7 @@ use Rattle.pages.specs.Promise.{CountPromise, TakePromise}
 use Rattle.histogram.specs.Meaning.{CallOutcome, Value, lent, openMeans}
 use Rattle.histogram.specs.Outcomes.{call-stays, open-stays}
 use Rattle.histogram.specs.Runs.{Call, increment, flip, ask, callMeans}
-use Rattle.plavotesk.specs.Meaning.{AskValues, Edges, edgesOf, toldAs, toldAsk, toldFound, toldWith}
+use Rattle.plavotesk.specs.Meaning.{AskValues, Edges, Quotients, edgesOf, quotientsOf, toldAs, toldAsk, toldFound, toldWith}
 use Rattle.plavotesk.specs.Promise.{Sentence, PacketFindPromise, PacketHeaderPromise, PacketWritePromise, MessageReadPromise, MessageWritePromise}
 use Rattle.plavotesk.specs.Promise.{CodePackPromise, CodeUnpackPromise, ReadingPromise, RatePromise, Float16CodePromise, Float8CodePromise, Int24Promise}
 use Rattle.plavotesk.specs.Promise.{LevelSecondsPromise, SecondBeginningPromise, SecondEndingPromise, Left, leftBy}
@@ -153,9 +153,10 @@ pub plv-reading-refused : (bytes : List ℕ) (at d : ℕ) (held : Edges) (o : �
 plv-reading-refused bytes at d held o = exported-refused (λ (v : ReadingValues). edgesOf (v .reading) (v .next)) (readingMeans bytes at d) held o
 
 -- forming a rate
-pub plv-rate-refused : (bytes : List ℕ) (at d level : ℕ) (held : RateValues) (o : ℕ × RateValues) → RatePromise bytes at d level held o
+pub plv-rate-refused : (bytes : List ℕ) (at d level : ℕ) (held : Quotients) (o : ℕ × Quotients) → RatePromise bytes at d level held o
     → Refuses (o .0) → o .1 ≡ held
-plv-rate-refused bytes at d level held o = exported-refused (λ (v : RateValues). v) (rateMeans bytes at d level) held o
+plv-rate-refused bytes at d level held o =
+    exported-refused (λ (v : RateValues). quotientsOf (v .rate) (v .next)) (rateMeans bytes at d level) held o
 
 -- the codes of the floats
 pub plv-float16-code-refused : (count held : ℕ) (o : ℕ × ℕ) → Float16CodePromise count held o → Refuses (o .0) → o .1 ≡ held

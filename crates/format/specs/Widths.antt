@@ -1,8 +1,8 @@
--- The shared facts at each width.
+-- The shared facts at a width: w mantissa bits, and so many bits in all. The formats are 12 of 16 and 3 of 8.
 -- Assumes nothing.
 use mathlib.Core.Path.{_≡_, refl}
 use Prim.Native.Nat.{ℕ, suc, _^_, _≤_, _<_}
-use Rattle.ground.specs.Greatest.{GrowsStrictly, strictly-grows}
+use Rattle.ground.specs.Greatest.{strictly-grows}
 use Rattle.ground.specs.Paper.{Paper, accepted}
 use Rattle.format.specs.Meaning.{floatValue, Takes}
 use Rattle.format.specs.Codes.{takes-reached, takes-next, takes-below, takes-back}
@@ -12,46 +12,27 @@ use Rattle.format.specs.Floats.{value-grows}
 pub limit16 : floatValue 12 (2 ^ 16) ≡ 2 ^ 27
 limit16 = refl
 
--- a 16-bit float's value grows with the code
-pub float16-grows : GrowsStrictly (floatValue 12)
-float16-grows = value-grows 12
-
--- the 16-bit float of a value is that code
-pub float16-back : (code : ℕ) (p : Paper ℕ) → code < 2 ^ 16 → Takes (floatValue 12) (2 ^ 27) (floatValue 12 code) p → p ≡ accepted code
-float16-back = takes-back (floatValue 12) float16-grows (2 ^ 16)
-
--- the value of a count's 16-bit float is not above the count
-pub float16-reached : {count code : ℕ} → Takes (floatValue 12) (2 ^ 27) count (accepted code) → floatValue 12 code ≤ count
-float16-reached = takes-reached (floatValue 12) (2 ^ 27)
-
--- and the next code's value is
-pub float16-next : {count code : ℕ} → Takes (floatValue 12) (2 ^ 27) count (accepted code) → count < floatValue 12 (suc code)
-float16-next = takes-next (floatValue 12) (2 ^ 27)
-
--- a count's 16-bit float has 16 bits
-pub float16-fits : {count code : ℕ} → Takes (floatValue 12) (2 ^ 27) count (accepted code) → code < 2 ^ 16
-float16-fits = takes-below (floatValue 12) (strictly-grows {value = floatValue 12} float16-grows) (2 ^ 16)
-
 -- the 8-bit limit is the value of the first code past 8 bits
 pub limit8 : floatValue 3 (2 ^ 8) ≡ 2 ^ 34
 limit8 = refl
 
--- an 8-bit float's value grows with the code
-pub float8-grows : GrowsStrictly (floatValue 3)
-float8-grows = value-grows 3
+module _ (w bits : ℕ) where
+  -- what a float of so many bits takes: its limit is the value of the first code past them
+  abbrev pub FloatTakes : ℕ → Paper ℕ → Type 0
+  FloatTakes = Takes (floatValue w) (floatValue w (2 ^ bits))
 
--- the 8-bit float of a value is that code
-pub float8-back : (code : ℕ) (p : Paper ℕ) → code < 2 ^ 8 → Takes (floatValue 3) (2 ^ 34) (floatValue 3 code) p → p ≡ accepted code
-float8-back = takes-back (floatValue 3) float8-grows (2 ^ 8)
+  -- the float of a value is that code
+  pub float-back : (code : ℕ) (p : Paper ℕ) → code < 2 ^ bits → FloatTakes (floatValue w code) p → p ≡ accepted code
+  float-back = takes-back (floatValue w) (value-grows w) (2 ^ bits)
 
--- the value of a count's 8-bit float is not above the count
-pub float8-reached : {count code : ℕ} → Takes (floatValue 3) (2 ^ 34) count (accepted code) → floatValue 3 code ≤ count
-float8-reached = takes-reached (floatValue 3) (2 ^ 34)
+  -- the value of a count's float is not above the count
+  pub float-reached : {count code : ℕ} → FloatTakes count (accepted code) → floatValue w code ≤ count
+  float-reached = takes-reached (floatValue w) (floatValue w (2 ^ bits))
 
--- and the next code's value is
-pub float8-next : {count code : ℕ} → Takes (floatValue 3) (2 ^ 34) count (accepted code) → count < floatValue 3 (suc code)
-float8-next = takes-next (floatValue 3) (2 ^ 34)
+  -- and the next code's value is
+  pub float-next : {count code : ℕ} → FloatTakes count (accepted code) → count < floatValue w (suc code)
+  float-next = takes-next (floatValue w) (floatValue w (2 ^ bits))
 
--- a count's 8-bit float has 8 bits
-pub float8-fits : {count code : ℕ} → Takes (floatValue 3) (2 ^ 34) count (accepted code) → code < 2 ^ 8
-float8-fits = takes-below (floatValue 3) (strictly-grows {value = floatValue 3} float8-grows) (2 ^ 8)
+  -- a count's float has so many bits
+  pub float-fits : {count code : ℕ} → FloatTakes count (accepted code) → code < 2 ^ bits
+  float-fits = takes-below (floatValue w) (strictly-grows {value = floatValue w} (value-grows w)) (2 ^ bits)

@@ -11,6 +11,7 @@ use lib.ListN.{length, getD, set}
 use Rattle.ground.specs.Choice.{pick}
 use Rattle.ground.specs.Words.{bytesOf, wordAt, word-bytes}
 use Rattle.ground.specs.Putting.{put, put-word}
+use Rattle.ground.specs.Laws.{inside}
 use Rattle.ground.specs.Promise.{LiesPromise, WordPromise, PutPromise}
 
 -- a place past the end
@@ -24,10 +25,6 @@ left bytes at size h = record { answer = go (leb size (length bytes - at)) refl 
     go : (t : Bool) → leb size (length bytes - at) ≡ t → leb size (length bytes - at) ≡ leb (at + size) (length bytes)
     go true e = e ∙ sym (le-leb (at + size) (length bytes) (omega (arith, leb-true size (length bytes - at) e)))
     go false e = e ∙ sym (lt-leb (at + size) (length bytes) (omega (arith, leb-false size (length bytes - at) e)))
-
--- what was said to lie in the bytes does
-pub inside : {bytes : List ℕ} {at size : ℕ} {t : Bool} → LiesPromise bytes at size t → t ≡ true → at + size ≤ length bytes
-inside {bytes} {at} {size} p e = leb-true (at + size) (length bytes) (sym (p .answer) ∙ e)
 
 module _ {bytes : List ℕ} {at : ℕ} {t : Bool} (p : LiesPromise bytes at 2 t) where
   -- a word is its two bytes

@@ -1,15 +1,19 @@
--- What callers cite: a word that lies in the bytes.
+-- What callers cite: what lies in the bytes, and a word that does.
 -- Assumes nothing.
-use mathlib.Core.Path.{_≡_, ap, _∙_}
-use mathlib.Core.Bool.{Bool}
+use mathlib.Core.Path.{_≡_, sym, ap, _∙_}
+use mathlib.Core.Bool.{Bool, true}
 use mathlib.Core.List.{List}
 use Prim.Native.Nat.{ℕ, _+_, _≤_}
-use borrow.Author.Tests.{le-leb}
+use borrow.Author.Tests.{le-leb, leb-true}
 use lib.ListN.{length}
 use Rattle.ground.specs.Choice.{pick}
 use Rattle.ground.specs.Words.{bytesOf, wordAt}
 use Rattle.ground.specs.Putting.{put}
-use Rattle.ground.specs.Promise.{WordPromise, PutPromise}
+use Rattle.ground.specs.Promise.{LiesPromise, WordPromise, PutPromise}
+
+-- what was said to lie in the bytes does
+pub inside : {bytes : List ℕ} {at size : ℕ} {t : Bool} → LiesPromise bytes at size t → t ≡ true → at + size ≤ length bytes
+inside {bytes} {at} {size} p e = leb-true (at + size) (length bytes) (sym (p .answer) ∙ e)
 
 -- what was answered is the word that lies there
 pub word-there : {bytes : List ℕ} {at r : ℕ} → WordPromise bytes at r → at + 2 ≤ length bytes → r ≡ wordAt bytes at

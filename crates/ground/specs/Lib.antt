@@ -4,6 +4,7 @@ pub mod Paper
 pub mod Outcome
 pub mod Greatest
 pub mod Words
+pub mod Bytes
 pub mod Bits
 pub mod Putting
 pub mod Meaning

@@ -18,6 +18,7 @@ use Rattle.pages.specs.declared.Window.{Window}
 use Rattle.histogram.specs.Answers.{askPaper, incrementPaper, incrementsPaper}
 use Rattle.histogram.specs.Meaning.{Admits, CallOutcome, Lent, admission, admitted, askMeans, counting, done, fittingOf, flipMeans, incrementMeans}
 use Rattle.histogram.specs.Meaning.{feedOf, feeding, incrementsMeans, keeping, lent, newMeans, nextAfterLast, nextMeans, openMeans, taking, turnMeans}
+use Rattle.histogram.specs.Meaning.{again}
 use Rattle.histogram.specs.Turns.{turnOf}
 use Rattle.histogram.specs.Words.{flagOf, freshIn, keepIn, keptIn, pageIn, stateWords}
 use Rattle.histogram.specs.declared.AskAnswer.{AskAnswer}
@@ -121,6 +122,6 @@ module _ (m w : List ℕ) (n : ℕ) (v : Window) where
       → outcomeOf (askPaper r) (lent m′ w′) ≡ keeping w n v m′ sum
   keeps {m′ = m′} e f = ap₂ (λ x y. outcomeOf (askPaper x) (lent m′ y)) e f
 
-  -- a sum answered again
-  pub repeats : {sum : ℕ} {r : AskAnswer} → r ≡ AskAnswer.Again sum → outcomeOf (askPaper r) (lent m w) ≡ turnMeans (Turn.LastAsk sum) m w n v
-  repeats e = ap (λ x. outcomeOf (askPaper x) (lent m w)) e
+-- a sum answered again
+pub repeats : {m w : List ℕ} {sum : ℕ} {r : AskAnswer} → r ≡ AskAnswer.Again sum → outcomeOf (askPaper r) (lent m w) ≡ accept (again sum) (lent m w)
+repeats {m} {w} e = ap (λ x. outcomeOf (askPaper x) (lent m w)) e

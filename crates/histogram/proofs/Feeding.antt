@@ -1,17 +1,16 @@
 -- A run of increments as the loop goes: so many counted, and the rest still to come.
 -- Assumes nothing.
-use mathlib.Core.Path.{_≡_, refl, sym, ap, ap₂, _∙_}
+use mathlib.Core.Path.{_≡_, refl, sym, ap, _∙_}
 use mathlib.Core.Bool.{Bool}
-use mathlib.Core.List.{List, [], _∷_}
+use mathlib.Core.List.{List}
 use Prim.Native.Nat.{ℕ, suc, _+_, _<_, _≤_, zero-le}
 use native.Mathlib.Numerals.{add-one}
 use native.Mathlib.Omega.{arith}
 use lib.ListN.{length, drop, getD, drop-of-length-le}
 use lib.Seq.{drop-cons}
-use Rattle.ground.specs.Outcome.{Outcome, outcomeOf, accept, refused-left}
-use Rattle.ground.specs.Paper.{Paper, accepted, refusal, numberOf}
+use Rattle.ground.specs.Outcome.{Outcome, accept, refused-left}
+use Rattle.ground.specs.Paper.{numberOf}
 use Rattle.pages.specs.Answers.{countPaper}
-use Rattle.pages.specs.Meaning.{countMeans}
 use Rattle.pages.specs.Outcomes.{count-stays}
 use Rattle.pages.specs.Promise.{CountPromise}
 use Rattle.pages.specs.declared.CountAnswer.{CountAnswer}

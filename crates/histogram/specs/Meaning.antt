@@ -39,12 +39,13 @@ CallOutcome = Outcome Value Lent
 abbrev pub roomy : List ℕ → Bool
 roomy state = leb stateWords (length state)
 
--- "Opening takes 2N words of 32 bits .., sets all to 0 and makes the lower half active"; refusal 13, also for fewer words than a state takes
+-- opened: "sets all to 0 and makes the lower half active"
+abbrev pub freshly : List ℕ → List ℕ → CallOutcome
+freshly memory state = accept done (lent (replicate (length memory) 0) (freshIn state (length memory)))
+
+-- "Opening takes 2N words of 32 bits, N from 1 to 262,144"; refusal 13, also for fewer words than a state takes
 unfoldable pub openMeans : List ℕ → List ℕ → CallOutcome
-openMeans memory state =
-    pick (roomy state && sizedOf (length memory))
-    (accept done (lent (replicate (length memory) 0) (freshIn state (length memory))))
-    (refuse 13 (lent memory state))
+openMeans memory state = pick (roomy state && sizedOf (length memory)) (freshly memory state) (refuse 13 (lent memory state))
 
 -- 13: "memory length odd, outside 2 to 524,288, or not the state's 2N"; where this fails, or fewer words than a state takes are lent
 abbrev pub fittingOf : ℕ → List ℕ → Bool

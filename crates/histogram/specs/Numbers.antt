@@ -1,5 +1,6 @@
 -- The numbers of asks: "A new ask bears the number after the last accepted, 1 after opening, 0 after 65535".
 -- Assumes nothing.
+use mathlib.Core.Bool.{Bool, true, false}
 use mathlib.Core.Path.{_≡_, refl, ap, _∙_}
 use mathlib.Core.List.{List}
 use Prim.Native.Nat.{ℕ, _+_}
@@ -9,6 +10,7 @@ use lib.ListN.{length, length-replicate, replicate}
 use borrow.Author.Tests.{eqb-true, ne-eqb}
 use Rattle.ground.specs.Choice.{pick-elim}
 use Rattle.ground.specs.Paper.{accepted, refused}
+use Rattle.ground.specs.Questions.{both-ways}
 use Rattle.pages.specs.declared.Window.{Window}
 use Rattle.histogram.specs.Meaning.{Admits, CallOutcome, admission, askMeans, done, new, openMeans}
 use Rattle.histogram.specs.Outcomes.{is-opened}
@@ -19,7 +21,7 @@ use Rattle.histogram.specs.Stays.{run-stays}
 use Rattle.histogram.specs.Turns.{nextOf, sameOf, turnOf}
 use Rattle.histogram.specs.Words.{Kept, Last, Nothing, freshIn, keptIn}
 use Rattle.histogram.specs.declared.turn.Turn.{Turn}
-use Rattle.histogram.specs.declared.turn.Turn.the-variants.{NewAsk}
+use Rattle.histogram.specs.declared.turn.Turn.the-variants.{NewAsk, LastAsk, OtherWindow, OutOfTurn}
 
 -- the number that a new ask must bear, beside what is kept: "the number after the last accepted, 1 after opening"
 abbrev pub turnNumber : Kept → ℕ
@@ -34,24 +36,36 @@ after-65535 = refl
 pub after-others : (n : ℕ) → (n ≡ 65535 → ⊥) → nextOf n ≡ n + 1
 after-others n h = rw (ne-eqb n 65535 h)
 
+-- whether a turn is a new ask's
+abbrev newTurn : Turn → Bool
+newTurn NewAsk = true
+newTurn (LastAsk sum) = false
+newTurn OtherWindow = false
+newTurn OutOfTurn = false
+
+-- a turn that is none is not
+not-new : {t : Turn} → newTurn t ≡ false → t ≡ NewAsk → ⊥
+not-new f e = both-ways (ap newTurn e) f
+
 -- a turn that is a new ask's bears the number whose turn it is
 pub new-number : (k : Kept) (number : ℕ) (w : Window) → turnOf k number w ≡ NewAsk → number ≡ turnNumber k
 new-number Nothing number w =
     pick-elim (λ (t : Turn). t ≡ NewAsk → number ≡ 1) (eqb number 1) _ _
     (λ h e. eqb-true _ _ h)
-    (λ h e. absurd (let z : _≡_ {A = ℕ} 0 1 = cc in omega arith))
+    (λ h e. absurd (not-new refl e))
 new-number (Last k v sum) number w =
     pick-elim (λ (t : Turn). t ≡ NewAsk → number ≡ nextOf k) (eqb number k) _ _
     (λ h. pick-elim (λ (t : Turn). t ≡ NewAsk → number ≡ nextOf k) (sameOf v w) _ _
-    (λ g e. absurd (let z : _≡_ {A = ℕ} 0 1 = cc in omega arith))
-    (λ g e. absurd (let z : _≡_ {A = ℕ} 0 1 = cc in omega arith)))
+    (λ g e. absurd (not-new refl e))
+    (λ g e. absurd (not-new refl e)))
     (λ h. pick-elim (λ (t : Turn). t ≡ NewAsk → number ≡ nextOf k) (eqb number (nextOf k)) _ _
     (λ g e. eqb-true _ _ g)
-    (λ g e. absurd (let z : _≡_ {A = ℕ} 0 1 = cc in omega arith)))
+    (λ g e. absurd (not-new refl e)))
 
--- a new ask, on any memory and state, bears the number whose turn it is
-pub new-bears : (m w : List ℕ) (number sum : ℕ) (v : Window) → askMeans m w number v .answer ≡ accepted (new sum) → number ≡ turnNumber (keptIn w)
-new-bears m w number sum v e = new-number (keptIn w) number v (is-new m w number sum v e .turn)
+-- a new ask, on any ledger, bears the number whose turn it is
+pub new-bears : (l : Ledger) (number sum : ℕ) (v : Window) → answered l (ask number v) .answer ≡ accepted (new sum)
+    → number ≡ turnNumber (keptIn (l .state))
+new-bears l number sum v e = new-number (keptIn (l .state)) number v (is-new l number sum v e .turn)
 
 module _ (m w : List ℕ) (o : openMeans m w .answer ≡ accepted done) where
   -- on an opened memory calls may go on
@@ -70,8 +84,7 @@ module _ (m w : List ℕ) (o : openMeans m w .answer ≡ accepted done) where
   pub first-number : (cs : List Call) → NoNew (opening m w) cs → (number sum : ℕ) (v : Window)
       → answered (run (opening m w) cs) (ask number v) .answer ≡ accepted (new sum) → number ≡ 1
   first-number cs n number sum v e =
-      new-bears (run (opening m w) cs .memory) (run (opening m w) cs .state) number sum v e
-      ∙ ap turnNumber (run-stays (opening m w) cs n .1 ∙ opened-keeps)
+      new-bears (run (opening m w) cs) number sum v e ∙ ap turnNumber (run-stays (opening m w) cs n .1 ∙ opened-keeps)
 
   -- after opening, and whatever calls with no new ask among them, every number but 1 is out of turn
   pub out-of-turn : (cs : List Call) → NoNew (opening m w) cs → (number : ℕ) (v : Window) → (number ≡ 1 → ⊥)
@@ -91,5 +104,4 @@ pub next-number : (l : Ledger) (number sum : ℕ) (v : Window) (later : List Cal
     → (number′ sum′ : ℕ) (v′ : Window) → answered (run (step l (ask number v)) later) (ask number′ v′) .answer ≡ accepted (new sum′)
     → number′ ≡ nextOf number
 next-number l number sum v later e n number′ sum′ v′ e′ =
-    new-bears (run (step l (ask number v)) later .memory) (run (step l (ask number v)) later .state) number′ sum′ v′ e′
-    ∙ ap turnNumber (stays-kept l number sum v later e n .kept)
+    new-bears (run (step l (ask number v)) later) number′ sum′ v′ e′ ∙ ap turnNumber (stays-kept l number sum v later e n .kept)

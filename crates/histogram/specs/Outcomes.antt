@@ -6,7 +6,7 @@ use mathlib.Core.Path.{_≡_, refl}
 use mathlib.Core.List.{List}
 use Prim.Native.Nat.{ℕ, _+_, _/_, _<_}
 use native.Mathlib.Omega.{arith}
-use lib.ListN.{length, replicate}
+use lib.ListN.{length}
 use Rattle.ground.specs.Choice.{pick-elim}
 use Rattle.ground.specs.Outcome.{Outcome, Stays, accept, refuse, onwardTo}
 use Rattle.ground.specs.Paper.{Paper, accepted, refused-not}
@@ -14,24 +14,23 @@ use Rattle.ground.specs.Questions.{both-hold}
 use Rattle.pages.specs.Meaning.{lastOf, putOf, sizedOf, walkTaken, windowWalk, wordOf}
 use Rattle.pages.specs.Outcomes.{count-elim, take-elim}
 use Rattle.pages.specs.declared.Window.{Window}
-use Rattle.histogram.specs.Meaning.{Admits, CallOutcome, admission, admitted, again, askMeans, counting, done, fittingOf, flipMeans, incrementMeans}
-use Rattle.histogram.specs.Meaning.{Lent, lent, newMeans, openMeans, roomy, taking, turnMeans}
+use Rattle.histogram.specs.Meaning.{Admits, CallOutcome, admission, admitted, again, askMeans, counting, done, flipMeans, incrementMeans}
+use Rattle.histogram.specs.Meaning.{Lent, lent, newMeans, openMeans, roomy, taking, turnMeans, freshly}
 use Rattle.histogram.specs.Runs.{Call, increment, flip, ask, callMeans}
+use Rattle.histogram.specs.States.{admission-elim}
 use Rattle.histogram.specs.Turns.{turnOf}
-use Rattle.histogram.specs.Words.{flipIn, freshIn, keptIn, pageIn}
+use Rattle.histogram.specs.Words.{flipIn, keptIn, pageIn}
 use Rattle.histogram.specs.declared.turn.Turn.{Turn}
 use Rattle.histogram.specs.declared.turn.Turn.the-variants.{NewAsk, LastAsk, OtherWindow, OutOfTurn}
 
 -- an accepted opening: the memory's length is one that opening takes, its words are 0, and the state is fresh
 pub record IsOpened (m w : List ℕ) (o : CallOutcome) : Type 0 where
   pub sized : sizedOf (length m) ≡ true
-  pub left : o ≡ accept done (lent (replicate (length m) 0) (freshIn w (length m)))
+  pub left : o ≡ freshly m w
 
 module _ (m w : List ℕ) where
   -- opening: memory and state fresh, or a refusal that leaves both
-  pub open-elim : (P : CallOutcome → Type 0)
-      → (sizedOf (length m) ≡ true → P (accept done (lent (replicate (length m) 0) (freshIn w (length m)))))
-      → ((n : ℕ) → 0 < n → P (refuse n (lent m w)))
+  pub open-elim : (P : CallOutcome → Type 0) → (sizedOf (length m) ≡ true → P (freshly m w)) → ((n : ℕ) → 0 < n → P (refuse n (lent m w)))
       → P (openMeans m w)
   unfolding openMeans
   open-elim P p q =
@@ -51,17 +50,17 @@ module _ (m w : List ℕ) where
   -- admission: what comes after it, or a refusal that leaves memory and state
   pub admitted-elim : {A : Type 0} (P : Outcome A Lent → Type 0) (o : Outcome A Lent) → (Admits m w → P o) → ((n : ℕ) → 0 < n → P (refuse n (lent m w)))
       → P (admitted m w o)
-  unfolding admission
   admitted-elim P o p q =
-      pick-elim (λ (a : Paper (Unit {0})). admission m w ≡ a → P (onwardTo (λ x. o) (lent m w) a)) (fittingOf (length m) w) _ _
-      (λ h. p)
-      (λ h e. q 13 (omega arith))
-      refl
+      admission-elim (λ (a : Paper (Unit {0})). admission m w ≡ a → P (onwardTo (λ x. o) (lent m w) a)) m w (λ h. p) (λ n z e. q n z) refl
+
+-- a new ask whose window was taken on the idle page
+abbrev pub newTaken : List ℕ → List ℕ → ℕ → Window → CallOutcome
+newTaken m w number v = taking w number v (walkTaken (windowWalk m (not (pageIn w)) v))
 
 module _ (P : Call → CallOutcome → Type 0) (m w : List ℕ) (refuses : (c : Call) (n : ℕ) → 0 < n → P c (refuse n (lent m w))) where
   -- an ask of any turn
   turn-elim : ((number : ℕ) (v : Window) → lastOf v < length m / 2 → turnOf (keptIn w) number v ≡ NewAsk
-      → P (ask number v) (taking w number v (walkTaken (windowWalk m (not (pageIn w)) v))))
+      → P (ask number v) (newTaken m w number v))
       → ((number sum : ℕ) (v : Window) → P (ask number v) (accept (again sum) (lent m w)))
       → (number : ℕ) (v : Window) (t : Turn) → turnOf (keptIn w) number v ≡ t → P (ask number v) (turnMeans t m w number v)
   unfolding newMeans
@@ -78,7 +77,7 @@ module _ (P : Call → CallOutcome → Type 0) (m w : List ℕ) (refuses : (c : 
       → P (increment address) (accept done (lent (putOf m (pageIn w) address (wordOf m (pageIn w) address + 1)) w)))
       → (Admits m w → P flip (accept done (lent m (flipIn w))))
       → (Admits m w → (number : ℕ) (v : Window) → lastOf v < length m / 2 → turnOf (keptIn w) number v ≡ NewAsk
-      → P (ask number v) (taking w number v (walkTaken (windowWalk m (not (pageIn w)) v))))
+      → P (ask number v) (newTaken m w number v))
       → (Admits m w → (number sum : ℕ) (v : Window) → P (ask number v) (accept (again sum) (lent m w)))
       → (c : Call) → P c (callMeans m w c)
   unfolding incrementMeans flipMeans askMeans

@@ -6,7 +6,7 @@ use Prim.Native.Nat.{ℕ}
 use Rattle.ground.specs.Outcome.{outcomeOf}
 use Rattle.pages.specs.declared.Window.{Window}
 use Rattle.histogram.specs.Answers.{openedPaper, incrementPaper, incrementsPaper, nextPaper, flipPaper, askPaper}
-use Rattle.histogram.specs.Meaning.{askMeans, flipMeans, incrementMeans, incrementsMeans, lent, nextMeans, openMeans}
+use Rattle.histogram.specs.Meaning.{askMeans, flipMeans, incrementMeans, incrementsMeans, lent, nextMeans, openMeans, newMeans}
 use Rattle.histogram.specs.declared.Opened.{Opened}
 use Rattle.histogram.specs.declared.IncrementAnswer.{IncrementAnswer}
 use Rattle.histogram.specs.declared.IncrementsAnswer.{IncrementsAnswer}
@@ -33,6 +33,10 @@ pub record NextPromise (state : List ℕ) (r : NextAnswer) : Type 0 where
 -- what a flip promises; the memory is lent unchangeable
 pub record FlipPromise (memory state : List ℕ) (r : FlipAnswer) (state′ : List ℕ) : Type 0 where
   pub outcome : outcomeOf (flipPaper r) (lent memory state′) ≡ flipMeans memory state
+
+-- what a new ask promises, which is no public call
+pub record NewPromise (memory state : List ℕ) (number : ℕ) (window : Window) (r : AskAnswer) (memory′ state′ : List ℕ) : Type 0 where
+  pub outcome : outcomeOf (askPaper r) (lent memory′ state′) ≡ newMeans memory state number window
 
 -- what an ask promises
 pub record AskPromise (memory state : List ℕ) (number : ℕ) (window : Window) (r : AskAnswer) (memory′ state′ : List ℕ) : Type 0 where

@@ -43,10 +43,10 @@ pub kept-again : (l : Ledger) {number sum : ℕ} {v : Window} → KeepsAsk l num
 unfolding askMeans
 kept-again l {number} {sum} {v} k = rw (k .admits, k .kept, eq-eqb number number refl, window-same v)
 
--- what an ask answered as new tells: it was admitted, it was its turn, and it is what is kept
-pub record IsNew (m w : List ℕ) (number sum : ℕ) (v : Window) (o : CallOutcome) : Type 0 where
-  pub admits : Admits m w
-  pub turn : turnOf (keptIn w) number v ≡ NewAsk
+-- what an ask answered as new on a ledger tells: it was admitted, it was its turn, and it is what is kept
+pub record IsNew (l : Ledger) (number sum : ℕ) (v : Window) (o : CallOutcome) : Type 0 where
+  pub admits : Admits (l .memory) (l .state)
+  pub turn : turnOf (keptIn (l .state)) number v ≡ NewAsk
   pub kept : keptIn (o .leaves .state) ≡ Last number v sum
 
 -- a sum answered again is not one answered as new
@@ -58,25 +58,29 @@ pub new-sums : {x sum : ℕ} → _≡_ {A = Paper Value} (accepted (new x)) (acc
 new-sums e = cc
 
 -- what an outcome tells of an ask; nothing of another call
-abbrev pub Told : List ℕ → List ℕ → ℕ → Call → CallOutcome → Type 0
-Told m w sum (increment address) o = Unit {0}
-Told m w sum flip o = Unit {0}
-Told m w sum (ask number v) o = o .answer ≡ accepted (new sum) → IsNew m w number sum v o
+abbrev pub Told : Ledger → ℕ → Call → CallOutcome → Type 0
+Told l sum (increment address) o = Unit {0}
+Told l sum flip o = Unit {0}
+Told l sum (ask number v) o = o .answer ≡ accepted (new sum) → IsNew l number sum v o
 
 -- a refusal tells nothing
-refusal-told : (m w : List ℕ) (sum : ℕ) (c : Call) (n : ℕ) → Told m w sum c (refuse n (lent m w))
-refusal-told m w sum (increment address) n = tt
-refusal-told m w sum flip n = tt
-refusal-told m w sum (ask number v) n = λ e. absurd (refused-not e)
+refusal-told : (l : Ledger) (sum : ℕ) (c : Call) (n : ℕ) → Told l sum c (refuse n (lent (l .memory) (l .state)))
+refusal-told l sum (increment address) n = tt
+refusal-told l sum flip n = tt
+refusal-told l sum (ask number v) n = λ e. absurd (refused-not e)
 
 -- an ask that was accepted as new was admitted, was its turn, and is what is kept
-pub is-new : (m w : List ℕ) (number sum : ℕ) (v : Window) → askMeans m w number v .answer ≡ accepted (new sum)
-    → IsNew m w number sum v (askMeans m w number v)
-is-new m w number sum v =
-    call-elim (Told m w sum) m w (λ c n z. refusal-told m w sum c n)
+pub is-new : (l : Ledger) (number sum : ℕ) (v : Window) → answered l (ask number v) .answer ≡ accepted (new sum)
+    → IsNew l number sum v (answered l (ask number v))
+is-new l number sum v =
+    call-elim (Told l sum) (l .memory) (l .state) (λ c n z. refusal-told l sum c n)
     (λ h a k. tt)
     (λ h. tt)
-    (λ h n u k t e. record { admits = h; turn = t; kept = keep-says w n u _ (admits-long m w h) .1 ∙ ap (λ (x : ℕ). Last n u x) (new-sums e) })
+    (λ h n u k t e. record {
+      admits = h;
+      turn = t;
+      kept = keep-says (l .state) n u _ (admits-long (l .memory) (l .state) h) .1 ∙ ap (λ (x : ℕ). Last n u x) (new-sums e);
+    })
     (λ h n x u e. absurd (again-not e))
     (ask number v)
 
@@ -85,7 +89,7 @@ module _ (l : Ledger) (number sum : ℕ) (v : Window) (later : List Call) where
   pub stays-kept : answered l (ask number v) .answer ≡ accepted (new sum) → NoNew (step l (ask number v)) later
       → KeepsAsk (run (step l (ask number v)) later) number v sum
   stays-kept e n =
-      let i = is-new (l .memory) (l .state) number sum v e in
+      let i = is-new l number sum v e in
       let r = run-stays (step l (ask number v)) later n in
       record { admits = r .0 ∙ call-admits l (ask number v) ∙ i .admits; kept = r .1 ∙ i .kept }
 

@@ -3,14 +3,14 @@
 use mathlib.Core.Bool.{Bool, true, false, not}
 use mathlib.Core.Path.{_≡_, refl}
 use mathlib.Core.List.{List, [], _∷_}
-use Prim.Native.Nat.{ℕ, _≤_}
+use Prim.Native.Nat.{ℕ, _≤_, _<_}
 use native.Mathlib.Omega.{arith}
 use borrow.Author.Tests.{eq-eqb, le-leb, leb-true}
 use lib.ListN.{drop, getD, length}
 use Rattle.ground.specs.Choice.{pick-elim}
 use Rattle.ground.specs.Questions.{both-hold}
 use Rattle.ground.specs.Outcome.{Outcome, onwardTo}
-use Rattle.ground.specs.Paper.{Paper, accepted, refusal, refused-not}
+use Rattle.ground.specs.Paper.{Paper, accepted, refusal, refused, refused-not}
 use Rattle.pages.specs.Meaning.{countMeans, sizedOf}
 use Rattle.pages.specs.declared.Window.{Window}
 use Rattle.histogram.specs.Words.{Kept, Last, Nothing, flagIn, flagOf, flipIn, freshIn, keepIn, keptIn, pageIn, stateWords}
@@ -31,13 +31,18 @@ ten P p (a ∷ b ∷ c ∷ d ∷ e ∷ f ∷ g ∷ h ∷ []) n = absurd (omega a
 ten P p (a ∷ b ∷ c ∷ d ∷ e ∷ f ∷ g ∷ h ∷ i ∷ []) n = absurd (omega arith)
 ten P p (a ∷ b ∷ c ∷ d ∷ e ∷ f ∷ g ∷ h ∷ i ∷ j ∷ l) n = p a b c d e f g h i j l
 
+-- admission: given to a memory that fits its state, or refused
+pub admission-elim : (P : Paper (Unit {0}) → Type 0) (m w : List ℕ) → (fittingOf (length m) w ≡ true → P (accepted tt))
+    → ((n : ℕ) → 0 < n → P (refused n)) → P (admission m w)
+unfolding admission
+admission-elim P m w p q = pick-elim P (fittingOf (length m) w) _ _ p (λ h. q 13 (omega arith))
+
 -- where a call may go on, a state's words were lent
 pub admits-long : (m w : List ℕ) → Admits m w → stateWords ≤ length w
-unfolding admission
 admits-long m w =
-    pick-elim (λ (p : Paper (Unit {0})). p ≡ accepted tt → stateWords ≤ length w) (fittingOf (length m) w) _ _
+    admission-elim (λ (p : Paper (Unit {0})). p ≡ accepted tt → stateWords ≤ length w) m w
     (λ h e. leb-true stateWords (length w) (both-hold {a = roomy w} h .0))
-    (λ h e. absurd (refused-not e))
+    (λ n z e. absurd (refused-not e))
 
 -- a flag's word says the flag
 pub flag-home : (b : Bool) → flagIn (flagOf b) ≡ b

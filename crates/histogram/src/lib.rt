@@ -9,9 +9,9 @@ ghost use Rattle.ground.specs.Outcome.{outcomeOf};
 ghost use Rattle.ground.specs.Paper.{mapped, numberOf};
 ghost use Rattle.pages.specs.Answers.{countPaper};
 ghost use Rattle.histogram.specs.Words.{flagOf, freshIn, keepIn, pageIn, stateWords};
-ghost use Rattle.histogram.specs.Meaning.{done, feedOf, fittingOf, lent, newMeans, nextAfterLast};
+ghost use Rattle.histogram.specs.Meaning.{done, feedOf, fittingOf, nextAfterLast};
 ghost use Rattle.histogram.specs.Answers.{openedPaper, incrementPaper, incrementsPaper, nextPaper, flipPaper, askPaper};
-ghost use Rattle.histogram.specs.Promise.{OpenPromise, IncrementPromise, IncrementsPromise, NextPromise, FlipPromise, AskPromise};
+ghost use Rattle.histogram.specs.Promise.{OpenPromise, IncrementPromise, IncrementsPromise, NextPromise, FlipPromise, AskPromise, NewPromise};
 use pages::CountAnswer;
 pub use pages::FULL;
 use pages::Taken;
@@ -337,12 +337,27 @@ fn following(last: u64) -> NextAnswer
     NextAnswer::Number((last + 1) as u16)
 }
 
-// A new ask: refused, or its window taken and its sum kept.
+// A new ask: it works on the idle page.
 fn new_ask(memory: &mut [u32], state: &mut [u64], number: u16, window: Window) -> AskAnswer
     requires { ⌜ stateWords ≤ length (now state) ⌝ }
-    ensures { λ r. ⌜ outcomeOf (askPaper r) (lent (now (memory .exit)) (now (state .exit))) ≡ newMeans (now (memory .entry)) (now (state .entry)) number window ⌝ }
+    ensures { λ r. ⌜ NewPromise (now (memory .entry)) (now (state .entry)) number window r (now (memory .exit)) (now (state .exit)) ⌝ }
 {
-    let taken = take(memory, idle_page(state), window);
+    let idle = idle_page(state);
+    ask_idle(memory, state, idle, number, window)
+}
+
+// A new ask of the idle page: refused with the state as it was, or its window taken and its sum kept.
+fn ask_idle(
+    memory: &mut [u32],
+    state: &mut [u64],
+    idle: bool,
+    number: u16,
+    window: Window,
+) -> AskAnswer
+    requires { ⌜ (stateWords ≤ length (now state)) × (idle ≡ not (pageIn (now state))) ⌝ }
+    ensures { λ r. ⌜ NewPromise (now (memory .entry)) (now (state .entry)) number window r (now (memory .exit)) (now (state .exit)) ⌝ }
+{
+    let taken = take(memory, idle, window);
     match taken {
         Taken::Sum(sum) => keep(state, number, window, sum),
         Taken::WrongCell => AskAnswer::WrongCell,

@@ -17,7 +17,7 @@ use Rattle.ground.specs.Choice.{pick}
 use Rattle.ground.specs.Questions.{both-hold}
 use Rattle.ground.specs.Putting.{put}
 use Rattle.code.specs.Meaning.{largest}
-use Rattle.code.proofs.Numbers.{minus, plus}
+use Rattle.code.specs.Numbers.{minus, plus}
 use Rattle.lines.specs.declared.Line.{Line}
 use Rattle.lines.specs.Meaning.{header, numberText, refusedText}
 use Rattle.lines.specs.Reading.{fresh, step, sound, known, answerOf}

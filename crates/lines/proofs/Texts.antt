@@ -13,15 +13,15 @@ use lib.ListN.{length, take, getD, set, length-map}
 use lib.Seq.{getD-take, length-take-le}
 use Rattle.ground.specs.Bits.{bitsOf}
 use Rattle.ground.specs.Choice.{pick}
-use Rattle.ground.specs.Putting.{put, Copied, copied-all, copied-none, copied-more}
+use Rattle.ground.specs.Putting.{Copied, copied-all, copied-none, copied-more}
 use Rattle.code.specs.BitLists.{length-bitsOf}
 use Rattle.code.specs.Positions.{getD-bitsOf, length-bitsThatCount, length-bytesFrom}
 use Rattle.ground.specs.Outcome.{Outcome, outcomeOf, accept}
 use Rattle.code.specs.Answers.{packedPaper}
 use Rattle.code.specs.Promise.{PackPromise}
-use Rattle.code.specs.Meaning.{largest, codeOf, signOf, shapeOfNumber, bytesWith, putAt, packMeans, bitsThatCount}
+use Rattle.code.specs.Meaning.{greatestPlace, largest, codeOf, signOf, shapeOfNumber, bytesWith, putAt, packMeans, bitsThatCount}
 use Rattle.code.specs.Shapes.{Drop, drop-is-known}
-use Rattle.code.specs.Magnitudes.{number-valid}
+use Rattle.code.specs.Magnitudes.{places, number-valid}
 use Rattle.code.specs.Theorems.{packs, put-stands, allBits-shape}
 use Rattle.code.specs.declared.Packed.{Packed}
 use Rattle.io.specs.Digits.{glyph, digits, Fewest}
@@ -170,7 +170,8 @@ module _ {buffer left : List ℕ} {w v : ℤ} {d k : ℕ} {packed : Packed} (fou
   code-bits : bitText left k ≡ codeText d v
   code-bits =
       ap₂ bitText leaves code-next
-      ∙ ap (map (λ b. 48 + b)) (put-stands buffer 0 (codeOf d v) with-room (allBits-shape d (shapeOfNumber d v) (number-valid d v dr small)))
+      ∙ ap (map (λ b. 48 + b))
+      (put-stands buffer 0 (codeOf d v) with-room (allBits-shape d (shapeOfNumber d v) (number-valid greatestPlace places d v dr small)))
 
   -- what putting the bits asks
   pub code-asks : (at size : ℕ) → at + 32 ≤ size → (at + k ≤ size) × (k ≤ 32) × (length left ≡ 4)

@@ -33,6 +33,7 @@ record Folded (s : Stand) (bs : List ℕ) (r : Stand) : Type 0 where
   pub used : r .used ≡ s .used + more
   pub line : r .line ≡ lineAfter (s .line) (take more bs)
 
+-- so is every run's
 folded : (size : ℕ) (s : Stand) (bs : List ℕ) → Folded s bs (goes size s bs)
 unfolding goes lineAfter
 folded size s [] = record { more = 0; used = omega arith; line = refl }

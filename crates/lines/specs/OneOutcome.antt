@@ -6,16 +6,16 @@ use Prim.Native.Nat.{ℕ}
 use Rattle.ground.specs.Paper.{one-value}
 use Rattle.lines.specs.declared.Line.{Line}
 use Rattle.lines.specs.declared.Ran.{Ran}
-use Rattle.lines.specs.Promise.{FreshPromise, TakenPromise, HeaderPromise, AnswerPromise, RunPromise}
+use Rattle.lines.specs.Promise.{FreshPromise, WithBytePromise, HeaderPromise, AnswerPromise, RunPromise}
 use Rattle.lines.specs.Printing.{PrintHeaderPromise, PrintPiecePromise, PrintLastPromise}
 
 -- `fresh_line` has one outcome
 pub fresh-one : {r s : Line} → FreshPromise r → FreshPromise s → r ≡ s
 fresh-one p q = one-value (p .answer) (q .answer)
 
--- `taken` has one outcome
-pub taken-one : {line : Line} {byte : ℕ} {r s : Line} → TakenPromise line byte r → TakenPromise line byte s → r ≡ s
-taken-one p q = one-value (p .answer) (q .answer)
+-- `with_byte` has one outcome
+pub with-byte-one : {line : Line} {byte : ℕ} {r s : Line} → WithBytePromise line byte r → WithBytePromise line byte s → r ≡ s
+with-byte-one p q = one-value (p .answer) (q .answer)
 
 -- `put_header` has one outcome: answer and memory
 pub header-one : {room : List ℕ} {r s : ℕ} {m n : List ℕ} → HeaderPromise room r m → HeaderPromise room s n → (r ≡ s) × (m ≡ n)

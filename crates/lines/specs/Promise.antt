@@ -18,8 +18,8 @@ use Rattle.lines.specs.Running.{ranOver}
 pub record FreshPromise (r : Line) : Type 0 where
   pub answer : r ≡ fresh
 
--- `taken` answers what is known after one byte more
-pub record TakenPromise (line : Line) (byte : ℕ) (r : Line) : Type 0 where
+-- `with_byte` answers what is known after one byte more
+pub record WithBytePromise (line : Line) (byte : ℕ) (r : Line) : Type 0 where
   pub answer : r ≡ step line byte
 
 -- `put_header` puts the header at the front of a room and answers how long it is; in a room under 80 bytes nothing

@@ -11,7 +11,7 @@ use lib.Dec.{leb, ltb, eqb, eqb·suc-zero}
 use lib.IntN.{ℤ, pos, negℤ}
 use lib.ListN.{length, length-append}
 use Rattle.ground.specs.Choice.{pick, pick-elim}
-use Rattle.ground.specs.Questions.{both-hold}
+use Rattle.ground.specs.Questions.{both-hold, both-ways, answered-no}
 use Rattle.code.specs.Meaning.{largest}
 use Rattle.lines.specs.declared.Line.{Line}
 use Rattle.lines.specs.Meaning.{digit, allDigits, decimal, minus, afterMinus, numeral, number, good, refusedText, numberText, lineMeans}
@@ -68,24 +68,20 @@ pub record Holds (s : Line) (p : List ℕ) : Type 0 where
 
 -- ---- small laws of tests
 
+-- a test with one that holds is the test
 and-true : (a : Bool) → a && true ≡ a
 and-true true = refl
 and-true false = refl
 
+-- three tests together, however they are taken
 and-assoc : (a b c : Bool) → (a && b && c) ≡ (a && (b && c))
 and-assoc true b c = refl
 and-assoc false b c = refl
 
+-- a test that cannot hold fails
 never : (t : Bool) → (t ≡ true → ⊥) → t ≡ false
 never true h = absurd (h refl)
 never false h = refl
-
-unlike : (t : Bool) → t ≡ true → t ≡ false → ⊥
-unlike t p q = let z : _≡_ {A = ℕ} 0 1 = cc in omega arith
-
-either : (t : Bool) → not t ≡ true → t ≡ false
-either true e = sym e
-either false e = refl
 
 -- both tests of two that hold together, of tests that are written out
 both : (a b : Bool) → (a && b) ≡ true → (a ≡ true) × (b ≡ true)
@@ -97,21 +93,25 @@ four-hold o d x y e =
     let p = both (not o) (d && (x && y)) e in
     let q = both d (x && y) (p .1) in
     let r = both x y (q .1) in
-    (either o (p .0), q .0, r .0, r .1)
+    (answered-no refl (p .0), q .0, r .0, r .1)
 
+-- and they hold together
 four-so : {o d x y : Bool} → o ≡ false → d ≡ true → x ≡ true → y ≡ true → (not o && (d && (x && y))) ≡ true
 four-so p q r s = rw (p, q, r, s)
 
 -- ---- digits after digits
 
+-- one byte more: all are digits where it is one
 allDigits-snoc : (q : List ℕ) (b : ℕ) → allDigits (q ++ (b ∷ [])) ≡ (allDigits q && digit b)
 allDigits-snoc [] b = and-true (digit b)
 allDigits-snoc (a ∷ q) b = ap (λ (t : Bool). digit a && t) (allDigits-snoc q b) ∙ sym (and-assoc (digit a) (allDigits q) (digit b))
 
+-- what they mean with it
 decimal-snoc : (n : ℕ) (q : List ℕ) (b : ℕ) → decimal n (q ++ (b ∷ [])) ≡ decimal n q * 10 + (b - 48)
 decimal-snoc n [] b = refl
 decimal-snoc n (a ∷ q) b = decimal-snoc (n * 10 + (a - 48)) q b
 
+-- and how many they are
 length-snoc : (q : List ℕ) (b : ℕ) → length (q ++ (b ∷ [])) ≡ length q + 1
 length-snoc q b = length-append q (b ∷ [])
 
@@ -126,6 +126,7 @@ decimal-lt n k (a ∷ q) e h =
     subst (λ (m : ℕ). decimal (n * 10 + (a - 48)) q < 10 ^ m) (suc-add k (length q) ∙ sym (add-suc k (length q)))
     (decimal-lt (n * 10 + (a - 48)) (suc k) q (parts .1) more)
 
+-- fewer than eight digits mean a number under ten million
 seven : (q : List ℕ) → allDigits q ≡ true → length q < 8 → decimal 0 q < 10000000
 seven q e h =
     let few : length q ≤ 7 = omega arith in
@@ -145,7 +146,7 @@ module _ (s : Line) (q : List ℕ) (b : ℕ) (c : Counts s q) where
       let room : s .digits < 8 = ltb-true (s .digits) 8 (all .2) in
       record {
         fine = λ o. (allDigits-snoc q b ∙ ap₂ _&&_ (c .fine fine .0) (all .1), omega (arith, length-snoc q b, c .digits fine));
-        wrong = λ o. absurd (unlike false o refl);
+        wrong = λ o. absurd (both-ways o refl);
         digits = λ o. omega (arith, length-snoc q b, c .digits fine);
         value = λ o. ap (λ (n : ℕ). n * 10 + (b - 48)) (c .value fine) ∙ sym (decimal-snoc 0 q b);
       }
@@ -159,10 +160,9 @@ module _ (s : Line) (q : List ℕ) (b : ℕ) (c : Counts s q) where
       go t o digs few
     where
       go : (t : Bool) → s .other ≡ t → (allDigits q ≡ true) × (digit b ≡ true) → length q < 8 → ⊥
-      go true o digs few = unlike (allDigits q && leb (length q) 8) (ap₂ _&&_ (digs .0) (le-leb (length q) 8 (omega arith))) (c .wrong o)
+      go true o digs few = both-ways (ap₂ _&&_ (digs .0) (le-leb (length q) 8 (omega arith))) (c .wrong o)
       go false o digs few =
-          unlike (oneMore s b)
-          (four-so o (digs .1) (lt-ltb (s .digits) 8 (omega (arith, c .digits o)))
+          both-ways (four-so o (digs .1) (lt-ltb (s .digits) 8 (omega (arith, c .digits o)))
           (lt-ltb (s .value) 10000000 (omega (arith, c .value o, seven q (digs .0) few))))
           e
 
@@ -171,19 +171,21 @@ module _ (s : Line) (q : List ℕ) (b : ℕ) (c : Counts s q) where
       → Counts (record { begun = true; minus = s .minus; digits = s .digits; value = s .value; other = true }) (q ++ (b ∷ []))
   spoilt e =
       record {
-        fine = λ o. absurd (unlike true refl o);
+        fine = λ o. absurd (both-ways refl o);
         wrong = λ o. never (allDigits (q ++ (b ∷ [])) && leb (length (q ++ (b ∷ []))) 8) (no-more e (s .other) refl);
-        digits = λ o. absurd (unlike true refl o);
-        value = λ o. absurd (unlike true refl o);
+        digits = λ o. absurd (both-ways refl o);
+        value = λ o. absurd (both-ways refl o);
       }
 
 -- one byte more of the digits
 digit-counts : (s : Line) (q : List ℕ) (b : ℕ) → Counts s q → Counts (digitStep s b) (q ++ (b ∷ []))
 digit-counts s q b c = pick-elim (λ (t : Line). Counts t (q ++ (b ∷ []))) (oneMore s b) _ _ (taken s q b c) (spoilt s q b c)
 
+-- a line has bytes after any byte
 digit-begun : (s : Line) (b : ℕ) → digitStep s b .begun ≡ true
 digit-begun s b = pick-elim (λ (t : Line). t .begun ≡ true) (oneMore s b) _ _ (λ e. refl) (λ e. refl)
 
+-- and its minus stays
 digit-minus : (s : Line) (b : ℕ) → digitStep s b .minus ≡ s .minus
 digit-minus s b = pick-elim (λ (t : Line). t .minus ≡ s .minus) (oneMore s b) _ _ (λ e. refl) (λ e. refl)
 
@@ -242,7 +244,7 @@ fresh-holds =
       counts =
           record {
             fine = λ o. (refl, zero-le);
-            wrong = λ o. absurd (unlike false o refl);
+            wrong = λ o. absurd (both-ways o refl);
             digits = λ o. refl;
             value = λ o. refl;
           };
@@ -255,7 +257,7 @@ other-refused : (q : List ℕ) (t : Bool) → (allDigits q && leb (length q) 8) 
 other-refused q t e = never (numeral q && t) (λ f.
     let n = both (leb 1 (length q)) (leb (length q) 8 && allDigits q) (both (numeral q) t f .0) in
     let m = both (leb (length q) 8) (allDigits q) (n .1) in
-    unlike (allDigits q && leb (length q) 8) (ap₂ _&&_ (m .1) (m .0)) e)
+    both-ways (ap₂ _&&_ (m .1) (m .0)) e)
 
 -- the tests of a line with digits alone
 good-is : (t u v w : Bool) → u ≡ true → v ≡ true → (t && w) ≡ (t && (u && v) && w)

@@ -7,16 +7,14 @@ use native.Mathlib.Nat.{add-zero}
 use native.Mathlib.Omega.{arith}
 use lib.Dec.{ltb, eqb}
 use lib.IntN.{ℤ, natAbs}
-use lib.ListN.{length, take, drop, length-append, length-map, take-append-drop, replicate, length-replicate}
+use lib.ListN.{length, take, drop, length-append, length-map, take-append-drop}
 use lib.Seq.{length-take-le}
 use Rattle.ground.specs.Choice.{pick-elim}
 use Rattle.ground.specs.Paper.{Paper, accepted, refusal}
 use Rattle.ground.specs.Putting.{put, put-next}
-use Rattle.ground.specs.Bits.{toBits}
-use Rattle.code.specs.Meaning.{Shape, nought, small, mid, big, bits, codeOf, shapeOfNumber, largest, signOf}
-use Rattle.code.specs.BitLists.{length-toBits}
-use Rattle.code.specs.Shapes.{Drop, Valid, none, three}
-use Rattle.code.specs.Magnitudes.{number-valid}
+use Rattle.code.specs.Meaning.{codeOf, shapeOfNumber, greatestPlace, largest, signOf}
+use Rattle.code.specs.Shapes.{Drop, none, three, bits-few}
+use Rattle.code.specs.Magnitudes.{places, number-valid}
 use Rattle.lines.specs.Meaning.{shortest, valueText, codeText, numberText}
 
 -- the text was put from a place on, and the place after it is answered
@@ -75,17 +73,9 @@ put-ends p h = omega (arith, p .place)
 
 -- ---- how long each piece is
 
--- the bits of a code are at most 27
-bits-few : (d : ℕ) (shape : Shape) → Valid d shape → length (bits d shape) ≤ 27
-bits-few d nought v = omega arith
-bits-few d (small s x) v = omega (arith, length-toBits (4 - d) x)
-bits-few d (mid s x) v = omega (arith, length-toBits (3 - d) x)
-bits-few d (big s ones p x) v =
-    omega (arith, v .2, length-append (replicate ones 1) (0 ∷ (p ∷ toBits (ones + 1 - d) x)), length-replicate {A = ℕ} ones 1, length-toBits (ones + 1 - d) x)
-
 -- a code is at most 27 bits long
 pub code-few : (d : ℕ) (v : ℤ) → Drop d → natAbs v ≤ largest → length (codeOf d v) ≤ 27
-code-few d v dr h = bits-few d (shapeOfNumber d v) (number-valid d v dr h)
+code-few d v dr h = bits-few greatestPlace d (shapeOfNumber d v) (places .from) dr (number-valid greatestPlace places d v dr h)
 
 -- and so is its text
 pub code-text-few : (d : ℕ) (v : ℤ) → Drop d → natAbs v ≤ largest → length (codeText d v) ≤ 27

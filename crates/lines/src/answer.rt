@@ -2,9 +2,9 @@
 use crate::ENOUGH;
 use crate::Line;
 use crate::fresh_line;
-use crate::taken;
 use crate::text::put_number;
 use crate::text::put_text;
+use crate::with_byte;
 use code::LARGEST;
 ghost use mathlib.Core.Path.{_≡_};
 ghost use mathlib.Core.Bool.{not};
@@ -26,7 +26,7 @@ pub(crate) fn next_line(line: Line, byte: u8) -> Line
     if byte == 10 {
         fresh_line()
     } else {
-        taken(line, byte)
+        with_byte(line, byte)
     }
 }
 

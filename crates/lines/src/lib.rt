@@ -4,8 +4,7 @@ mod byte;
 mod printing;
 mod text;
 
-ghost use mathlib.Core.Path.{_≡_};
-ghost use Rattle.lines.specs.Promise.{AnswerPromise, FreshPromise, HeaderPromise, RunPromise, TakenPromise};
+ghost use Rattle.lines.specs.Promise.{AnswerPromise, FreshPromise, HeaderPromise, RunPromise, WithBytePromise};
 use answer::may_go;
 use answer::next_line;
 use answer::put_line;
@@ -65,8 +64,8 @@ pub fn fresh_line() -> Line
 }
 
 // One byte more of a line.
-pub fn taken(line: Line, byte: u8) -> Line
-    ensures { λ r. ⌜ TakenPromise line byte r ⌝ }
+pub fn with_byte(line: Line, byte: u8) -> Line
+    ensures { λ r. ⌜ WithBytePromise line byte r ⌝ }
 {
     let begun = line.begun;
     if begun {

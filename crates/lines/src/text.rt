@@ -1,7 +1,7 @@
 // Text put into a room at a place: bytes, and a number's line: the value in shortest decimal, and both codes in digits 0 and 1.
 ghost use mathlib.Core.Path.{_≡_};
 ghost use mathlib.Core.List.{_∷_, [], map};
-ghost use Prim.Native.Nat.{_+_, _*_, _/_, _-_, _%_, _^_, _≤_, _<_};
+ghost use Prim.Native.Nat.{_+_, _/_, _-_, _%_, _≤_, _<_};
 ghost use lib.IntN.{natAbs};
 ghost use lib.ListN.{length, take};
 ghost use Rattle.ground.specs.Bits.{bitsOf};
@@ -105,16 +105,8 @@ fn put_bits(room: &mut [u8], at: usize, bytes: &[u8], count: u64) -> usize
 {
     let mut i: usize = 0;
     while (i as u64) < count {
-        room[at + i] = 48 + bit_of(bytes[i / 8], (i % 8) as u8);
+        room[at + i] = 48 + code::bit_of(bytes[i / 8], (i % 8) as u8);
         i += 1;
     }
     at + i
-}
-
-// A bit of a byte, most significant first.
-fn bit_of(byte: u8, place: u8) -> u8
-    requires { ⌜ place < 8 ⌝ }
-    ensures { λ r. ⌜ (r ≡ byte / 2 ^ (7 - place) % 2) × (r < 2) ⌝ }
-{
-    (byte >> (7 - place)) % 2
 }

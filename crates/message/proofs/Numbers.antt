@@ -17,9 +17,11 @@ pub record Summed (bytes : List ℕ) (at count value i : ℕ) : Type 0 where
   pub so-far : value ≡ number (take i (drop at bytes))
   pub small : value < 256 ^ i
 
+-- before the first byte
 pub summed-none : (bytes : List ℕ) (at count : ℕ) → Summed bytes at count 0 0
 summed-none bytes at count = record { within = zero-le; so-far = refl; small = zero-lt-suc 0 }
 
+-- one byte more in the value
 pub summed-more : {bytes : List ℕ} {at count value i : ℕ} (b : ℕ) → at + count ≤ length bytes → Summed bytes at count value i → i < count
     → b ≡ getD bytes (at + i) 0 → b < 256 → Summed bytes at count (value * 256 + b) (i + 1)
 summed-more {bytes} {at} {count} {value} {i} b n s h is g =
@@ -46,6 +48,7 @@ pub record Putting (buffer₀ : List ℕ) (at count value : ℕ) (buffer : List 
   pub still : rest ≡ value / 256 ^ (count - left)
   pub long : length buffer ≡ length buffer₀
 
+-- before the last byte
 pub putting-none : (buffer : List ℕ) (at count value : ℕ) → Putting buffer at count value buffer count value
 putting-none buffer at count value =
     let none : count - count ≡ 0 = omega arith in
@@ -59,6 +62,7 @@ putting-none buffer at count value =
       long = refl;
     }
 
+-- one byte more put
 pub putting-more : {buffer₀ : List ℕ} {at count value : ℕ} {buffer : List ℕ} {left rest : ℕ} → at + count ≤ length buffer₀
     → Putting buffer₀ at count value buffer left rest → 0 < left
     → Putting buffer₀ at count value (set buffer (at + (left - 1)) (rest % 256)) (left - 1) (rest / 256)
@@ -81,6 +85,7 @@ putting-more {buffer₀} {at} {count} {value} {buffer} {left} {rest} n p h =
       long = length-set buffer (at + (left - 1)) (rest % 256) ∙ p .long;
     }
 
+-- all bytes are put
 pub putting-all : {buffer₀ : List ℕ} {at count value : ℕ} {buffer : List ℕ} {left rest : ℕ} → Putting buffer₀ at count value buffer left rest
     → left ≤ 0 → buffer ≡ put buffer₀ at (bytesOf count value)
 putting-all {buffer₀} {at} {count} {value} {buffer} {left} p h =
@@ -88,6 +93,7 @@ putting-all {buffer₀} {at} {count} {value} {buffer} {left} p h =
     let all : count - left ≡ count = omega arith in
     p .so-far ∙ ap₂ (λ (m k : ℕ). put buffer₀ m (bytesOf k value)) none all
 
+-- all bytes are in the value
 pub summed-all : {bytes : List ℕ} {at count value i : ℕ} → Summed bytes at count value i → count ≤ i → value ≡ number (take count (drop at bytes))
 summed-all {bytes} {at} {count} {value} {i} s h =
     let all : i ≡ count = omega (arith, s .within) in

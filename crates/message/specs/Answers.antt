@@ -18,10 +18,12 @@ readPaper R.WrongMark = refused 4
 readPaper R.CutShort = refused 5
 readPaper R.WrongChecksum = refused 6
 
+-- the way back
 abbrev pub readBack : Paper ReadValues → MessageRead
 readBack (accepted m) = R.Message (m .address) (m .tag) (m .value) (m .used)
 readBack (refusal n carried) = pick (eqb n 4) R.WrongMark (pick (eqb n 5) R.CutShort R.WrongChecksum)
 
+-- there and back is the same answer
 pub read-home : (a : MessageRead) → readBack (readPaper a) ≡ a
 read-home (R.Message a t v u) = refl
 read-home R.WrongMark = refl
@@ -34,10 +36,12 @@ writtenPaper (W.Bytes n) = accepted n
 writtenPaper W.OutsideRule = refused 7
 writtenPaper W.BufferTooShort = refused 3
 
+-- the way back
 abbrev pub writtenBack : Paper ℕ → MessageWritten
 writtenBack (accepted n) = W.Bytes n
 writtenBack (refusal n carried) = pick (eqb n 7) W.OutsideRule W.BufferTooShort
 
+-- there and back is the same answer
 pub written-home : (a : MessageWritten) → writtenBack (writtenPaper a) ≡ a
 written-home (W.Bytes n) = refl
 written-home W.OutsideRule = refl

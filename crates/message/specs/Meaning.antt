@@ -38,10 +38,11 @@ messageOf address tag value = sealedOf (covered address tag value)
 abbrev pub marked : List ℕ → Bool
 marked bytes = eqb (getD bytes 0 0) 0x3C && eqb (getD bytes 1 0) 0x3D
 
--- the tag and the address of the message at the front
+-- the tag of the message at the front
 abbrev pub tagAt : List ℕ → ℕ
 tagAt bytes = wordAt bytes 2 / 2 ^ 14
 
+-- the address of the message at the front
 abbrev pub addressAt : List ℕ → ℕ
 addressAt bytes = wordAt bytes 2 % 2 ^ 14
 
@@ -74,7 +75,7 @@ readMeans bytes =
     (accepted (record { address = addressAt bytes; tag = tagAt bytes; value = valueAt bytes; used = sizeAt bytes + 6 })))))
 
 -- "message address, tag or stray bits": an address of 14 bits, a tag of 2, and no bits beyond the size
-abbrev pub sayable : ℕ → ℕ → ℕ → Bool
+unfoldable pub sayable : ℕ → ℕ → ℕ → Bool
 sayable address tag value = leb address 0x3FFF && (leb tag 3 && ltb value (256 ^ dataSize tag))
 
 -- writing: 7, then 3; it "refuses bits beyond the size, answers the bytes written and leaves those past the message"

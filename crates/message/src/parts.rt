@@ -42,14 +42,14 @@ pub(crate) fn number_at(bytes: &[u8], at: usize, count: usize) -> u64
     let mut value: u64 = 0;
     let mut i = 0;
     while i < count {
-        value = value * 256 + long(bytes[at + i]);
+        value = value * 256 + wide(bytes[at + i]);
         i += 1;
     }
     value
 }
 
 // A byte as a value.
-fn long(x: u8) -> u64
+fn wide(x: u8) -> u64
     ensures { λ r. ⌜ (r ≡ x) × (r < 256) ⌝ }
 {
     x as u64

@@ -12,20 +12,22 @@ use lib.ListN.{length, length-append, take, drop, getD, set, replicate, take-app
 use lib.Seq.{take-at, drop-at, length-take-le, take-append-le}
 use lib.Pow.{pow-pos, pow-mono, split, ones-lt, shr-shr}
 use lib.Dec.{ltb, leb}
-use borrow.Author.Tests.{lt-ltb, le-ltb, le-leb, lt-leb, ltb-true, ltb-false}
+use borrow.Author.Tests.{lt-ltb, le-ltb, le-leb, lt-leb, ltb-true, ltb-false, eq-eqb, ne-eqb}
 use mir.Syntax.{w64}
 use mir.Val.{Fits}
 use Rattle.ground.specs.Choice.{pick}
 use Rattle.ground.specs.Outcome.{accept, refuse}
 use Rattle.ground.specs.Bits.{toBits, bitsOf}
 use Rattle.ground.specs.Putting.{put, put-next}
-use Rattle.code.specs.Meaning.{nought, small, mid, bits, coded, shapeOf, bigOf, leading, leastCoded, signOf, bitsThatCount, largest, longestRun, toByteEnd}
+use Rattle.code.specs.Meaning.{nought, small, bits, coded, shapeOf, ledOf, leading, leftOut, width, onesOf, withParity, leastCoded, signOf, toByteEnd}
+use Rattle.code.specs.Meaning.{bitsThatCount, largest, greatestPlace}
 use Rattle.code.specs.Meaning.{padded, bytesFrom, bytesWith, codeOf, fitsAt, placeMeans, inRule, dropKnown}
 use Rattle.code.specs.BitLists.{length-toBits, length-bitsOf, toBits-low, toBits-join, toBits-ones, toBits-zeros}
-use Rattle.code.specs.Positions.{length-bitsThatCount, allBytes, bytes-back}
-use Rattle.code.specs.Magnitudes.{leading-is, exponent-lt, high-lt, field-lt, drop-small}
-use Rattle.code.specs.Shapes.{Drop}
-use Rattle.code.proofs.Numbers.{shift-is}
+use Rattle.ground.specs.Bytes.{Bytes}
+use Rattle.code.specs.Positions.{length-bitsThatCount, bytes-back}
+use Rattle.code.specs.Magnitudes.{leading-is, exponent-lt, high-lt, field-lt}
+use Rattle.code.specs.Shapes.{Drop, drop-small, below-led}
+use Rattle.code.specs.Numbers.{shift-is}
 use Rattle.pack.specs.Steps.{Holds, byteBits, PlacePromise}
 use Rattle.code.specs.Promise.{PackPromise}
 use Rattle.code.specs.declared.Packed.{Packed}
@@ -33,19 +35,19 @@ use Rattle.code.specs.declared.Packed.the-variants.{Next, OutsideRule as Packed
 
 -- ---- a code's bits as a number
 
--- the leading place of a big magnitude, as the count of zeros above it gives it
-pub leading-zeros : (m : ℕ) → 32 ≤ m → m ≤ largest
-    → (31 - leadingZeros 32 m ≡ leading m) × (5 ≤ 31 - leadingZeros 32 m) × (31 - leadingZeros 32 m < 2 * longestRun + 3)
+-- the place of the leading one, as the count of zeros above it gives it
+pub leading-zeros : (m : ℕ) → 16 ≤ m → m ≤ largest
+    → (31 - leadingZeros 32 m ≡ leading m) × (4 ≤ 31 - leadingZeros 32 m) × (31 - leadingZeros 32 m ≤ greatestPlace)
 leading-zeros m a b =
     let o = leading-top 32 m (omega arith) (omega arith) in
     let j : ℕ = o .0 in
     let e : 31 - leadingZeros 32 m ≡ j = omega (arith, o .1) in
-    let low : 5 < suc j = exponent-lt 5 (suc j) a (o .3) in
-    let top : j < 2 * longestRun + 3 = exponent-lt j (2 * longestRun + 3) (o .2) (omega arith) in
+    let low : 4 < suc j = exponent-lt 4 (suc j) a (o .3) in
+    let top : j < suc greatestPlace = exponent-lt j (suc greatestPlace) (o .2) (omega arith) in
     (e ∙ sym (leading-is 31 j m (omega arith) (o .2) (o .3)), omega arith, omega arith)
 
--- a big magnitude has a leading one
-pub leading-zeros-few : (m : ℕ) → 32 ≤ m → m ≤ largest → leadingZeros 32 m ≤ 31
+-- there is a leading one
+pub leading-zeros-few : (m : ℕ) → 16 ≤ m → m ≤ largest → leadingZeros 32 m ≤ 31
 leading-zeros-few m a b = let o = leading-top 32 m (omega arith) (omega arith) in omega (arith, o .1)
 
 -- a power of two less one, as the code computes it
@@ -128,15 +130,10 @@ pub shape-small : (d s m : ℕ) → leastCoded d ≤ m → m < 16 → shapeOf d 
 unfolding shapeOf
 shape-small d s m a h = rw (le-ltb m (leastCoded d) a, lt-ltb m 16 h)
 
--- a magnitude under 32
-pub shape-mid : (d s m : ℕ) → leastCoded d ≤ m → 16 ≤ m → m < 32 → shapeOf d s m ≡ mid s (m % 16 / 2 ^ (1 + d))
+-- a magnitude from 16 on
+pub shape-led : (d s m : ℕ) → leastCoded d ≤ m → 16 ≤ m → shapeOf d s m ≡ ledOf d s (leading m) m
 unfolding shapeOf
-shape-mid d s m a b h = rw (le-ltb m (leastCoded d) a, le-ltb m 16 b, lt-ltb m 32 h)
-
--- a magnitude from 32 on
-pub shape-big : (d s m : ℕ) → leastCoded d ≤ m → 16 ≤ m → 32 ≤ m → shapeOf d s m ≡ bigOf d s (leading m) m
-unfolding shapeOf
-shape-big d s m a b h = rw (le-ltb m (leastCoded d) a, le-ltb m 16 b, le-ltb m 32 h)
+shape-led d s m a b = rw (le-ltb m (leastCoded d) a, le-ltb m 16 b)
 
 -- ---- bits put into bytes
 
@@ -176,6 +173,7 @@ module _ (byte room number top : ℕ) (small-byte : byte < 256) (in-byte : room 
       subst (λ (n : ℕ). n < 256) (sym whole)
       (field-lt (8 - room) room 8 (high-lt (8 - room) room 8 small-byte (omega arith)) fits (omega arith))
 
+  -- with the first bits of the byte and those of the number
   pub filled-bits : byteBits (top + number) ≡ take (8 - room) (byteBits byte) ++ toBits room number
   unfolding byteBits
   filled-bits =
@@ -341,26 +339,49 @@ put-done old now at count number left z e =
     let whole : number / 2 ^ left ≡ number = ap (λ (n : ℕ). number / 2 ^ n) z ∙ native.Mathlib.Nat.div-one number in
     e ∙ ap₂ (λ (m n : ℕ). put (bitsOf old) at (toBits m n)) all whole
 
--- ---- the code of a big magnitude
+-- ---- the code of a magnitude from 16 on
 
--- the field of a big magnitude lies in its width
-pub big-field-lt : (d k m x : ℕ) → Drop d → 5 ≤ k → x ≡ m % 2 ^ k / 2 ^ ((k - 1) / 2 + (k - 1) % 2 + d) → x < 2 ^ ((k - 1) / 2 + 1 - d)
-big-field-lt d k m x dr h e =
-    subst (λ (n : ℕ). n < 2 ^ ((k - 1) / 2 + 1 - d)) (sym e)
-    (high-lt ((k - 1) / 2 + 1 - d) ((k - 1) / 2 + (k - 1) % 2 + d) k (mod-lt m (pow-pos k)) (omega (arith, drop-small dr)))
+-- the bits left out of 16 to 31
+pub left-four : (k d w : ℕ) → k ≡ 4 → w ≡ d → 1 + w ≡ leftOut d k
+left-four k d w e q = ap (λ (n : ℕ). 1 + n) q ∙ ap (λ (b : Bool). pick b (1 + d) (k / 2 + d)) (sym (eq-eqb k 4 e))
 
--- its parity and its field, side by side
-pub big-holds : (d s m k x j number count : ℕ) → Drop d → 5 ≤ k → k ≡ leading m → x ≡ m % 2 ^ k / 2 ^ ((k - 1) / 2 + (k - 1) % 2 + d)
-    → j ≡ (k - 1) % 2 * 2 ^ ((k - 1) / 2 + 1 - d) + x
-    → Holds number count (coded s ((k - 1) / 2) (toBits (1 + ((k - 1) / 2 + 1 - d)) j))
-    → Holds number count (bits d (bigOf d s (leading m) m))
-big-holds d s m k x j number count dr h place e f held =
-    subst (λ (n : ℕ). Holds number count (bits d (bigOf d s n m))) place
-    (held-as held
-    (ap (coded s ((k - 1) / 2))
-    (ap (toBits (1 + ((k - 1) / 2 + 1 - d))) f
-    ∙ bit-before ((k - 1) / 2 + 1 - d) ((k - 1) % 2) x (mod-lt (k - 1) (pow-pos 1)) (big-field-lt d k m x dr h e)
-    ∙ ap (λ (n : ℕ). (k - 1) % 2 ∷ toBits ((k - 1) / 2 + 1 - d) n) e)))
+-- and of every other place
+pub left-other : (k d w : ℕ) → (k ≡ 4 → ⊥) → w ≡ d → k / 2 + w ≡ leftOut d k
+left-other k d w e q = ap (λ (n : ℕ). k / 2 + n) q ∙ ap (λ (b : Bool). pick b (1 + d) (k / 2 + d)) (sym (ne-eqb k 4 e))
+
+module _ (d s m k left x : ℕ) (place : k ≡ leading m) (left-is : left ≡ leftOut d k) (x-is : x ≡ m % 2 ^ k / 2 ^ left) where
+  -- its field
+  same-field : toBits (k - left) x ≡ toBits (width d k) (m % 2 ^ k / 2 ^ leftOut d k)
+  same-field = ap₂ toBits (ap (λ (n : ℕ). k - n) left-is) (x-is ∙ ap (λ (n : ℕ). m % 2 ^ k / 2 ^ n) left-is)
+
+  -- it lies in its width
+  pub field-fits : Drop d → 4 ≤ k → x < 2 ^ (k - left)
+  field-fits dr four =
+      let b = below-led k dr four in
+      subst (λ (n : ℕ). n < 2 ^ (k - left)) (sym x-is) (high-lt (k - left) left k (mod-lt m (pow-pos k)) (omega (arith, b .all)))
+
+  -- bits by their place are those by the leading one
+  by-place : {number count : ℕ} → Holds number count (bits d (ledOf d s k m)) → Holds number count (bits d (ledOf d s (leading m) m))
+  by-place {number} {count} h = subst (λ (n : ℕ). Holds number count (bits d (ledOf d s n m))) place h
+
+  -- 16 to 31: one one, and the field
+  pub four-holds : (number count : ℕ) → k ≡ 4 → Holds number count (coded s 1 (toBits (k - left) x)) → Holds number count (bits d (ledOf d s (leading m) m))
+  four-holds number count four held =
+      by-place (held-as held (ap (coded s 1) same-field
+      ∙ ap (λ (n : ℕ). coded s (onesOf n) (withParity n (toBits (width d k) (m % 2 ^ k / 2 ^ leftOut d k)))) (sym four)))
+
+  -- from 32 on: parity and field, side by side
+  pub led-holds : (j number count : ℕ) → Drop d → 4 ≤ k → (k ≡ 4 → ⊥) → j ≡ (k - 1) % 2 * 2 ^ (k - left) + x
+      → Holds number count (coded s ((k - 1) / 2) (toBits (1 + (k - left)) j))
+      → Holds number count (bits d (ledOf d s (leading m) m))
+  led-holds j number count dr four other j-is held =
+      let l : List ℕ = toBits (width d k) (m % 2 ^ k / 2 ^ leftOut d k) in
+      by-place (held-as held
+      (ap (coded s (onesOf k))
+      (ap (toBits (1 + (k - left))) j-is
+      ∙ bit-before (k - left) ((k - 1) % 2) x (mod-lt (k - 1) (pow-pos 1)) (field-fits dr four)
+      ∙ ap (λ (r : List ℕ). (k - 1) % 2 ∷ r) same-field
+      ∙ ap (λ (b : Bool). pick b l ((k - 1) % 2 ∷ l)) (sym (ne-eqb k 4 other)))))
 
 -- nought is one bit
 pub nought-holds : (d s m : ℕ) → m < leastCoded d → Holds 0 1 (bits d (shapeOf d s m))
@@ -377,23 +398,19 @@ pub small-holds : (d s m least number count : ℕ) → least ≡ leastCoded d �
     → Holds number count (coded s 0 (toBits (4 - d) (m / 2 ^ d))) → Holds number count (bits d (shapeOf d s m))
 small-holds d s m least number count e a h held = held-as held (ap (bits d) (sym (shape-small d s m (omega arith) h)))
 
--- the code of a mid magnitude
-pub mid-holds : (d s m least number count : ℕ) → least ≡ leastCoded d → least ≤ m → 16 ≤ m → m < 32
-    → Holds number count (coded s 1 (toBits (3 - d) (m % 16 / 2 ^ (1 + d)))) → Holds number count (bits d (shapeOf d s m))
-mid-holds d s m least number count e a b h held = held-as held (ap (bits d) (sym (shape-mid d s m (omega arith) b h)))
+-- the code of a magnitude from 16 on
+pub led-code-holds : (d s m least number count : ℕ) → least ≡ leastCoded d → least ≤ m → 16 ≤ m
+    → Holds number count (bits d (ledOf d s (leading m) m)) → Holds number count (bits d (shapeOf d s m))
+led-code-holds d s m least number count e a b held = held-as held (ap (bits d) (sym (shape-led d s m (omega arith) b)))
 
--- the code of a big magnitude
-pub big-code-holds : (d s m least number count : ℕ) → least ≡ leastCoded d → least ≤ m → 16 ≤ m → 32 ≤ m
-    → Holds number count (bits d (bigOf d s (leading m) m)) → Holds number count (bits d (shapeOf d s m))
-big-code-holds d s m least number count e a b h held = held-as held (ap (bits d) (sym (shape-big d s m (omega arith) b h)))
+-- a small field lies in its width
+pub small-field-lt : (d left m : ℕ) → Drop d → left ≡ d → m < 16 → m / 2 ^ left < 2 ^ (4 - left)
+small-field-lt d left m dr e h = high-lt (4 - left) left 4 h (omega (arith, drop-small dr))
 
--- the fields of small and mid magnitudes lie in their widths
-pub small-field-lt : (d m : ℕ) → Drop d → m < 16 → m / 2 ^ d < 2 ^ (4 - d)
-small-field-lt d m dr h = high-lt (4 - d) d 4 h (omega (arith, drop-small dr))
-
--- and the field of a mid magnitude
-pub mid-field-lt : (d m : ℕ) → Drop d → m % 16 / 2 ^ (1 + d) < 2 ^ (3 - d)
-mid-field-lt d m dr = high-lt (3 - d) (1 + d) 4 (mod-lt m (pow-pos 4)) (omega (arith, drop-small dr))
+-- and its code is that of the drop
+pub small-is : (d left s m number count : ℕ) → left ≡ d → Holds number count (coded s 0 (toBits (4 - left) (m / 2 ^ left)))
+    → Holds number count (coded s 0 (toBits (4 - d) (m / 2 ^ d)))
+small-is d left s m number count e held = held-as held (ap (λ (n : ℕ). coded s 0 (toBits (4 - n) (m / 2 ^ n))) e)
 
 -- ---- bits placed in a buffer
 
@@ -420,7 +437,7 @@ padded-is at number count pad e =
 
 -- they fit
 pub place-there : (buffer last : List ℕ) (at number count end pad joined : ℕ) → end ≡ length (bitsThatCount buffer) → at + count ≤ end
-    → pad ≡ toByteEnd (at + count) → joined ≡ number * 2 ^ pad + 0 → length last ≡ length buffer → allBytes last
+    → pad ≡ toByteEnd (at + count) → joined ≡ number * 2 ^ pad + 0 → length last ≡ length buffer → Bytes last
     → bitsOf last ≡ put (bitsOf buffer) at (toBits (count + pad) joined)
     → PlacePromise buffer at (toBits count number) (Next (at + count)) last
 place-there buffer last at number count end pad joined e h p q same ok wrote =
@@ -438,13 +455,13 @@ place-there buffer last at number count end pad joined e h p q same ok wrote =
 -- ---- a number packed
 
 -- inside the rule
-pub pack-is : (buffer last : List ℕ) (at : ℕ) (v : ℤ) (d w s m number count : ℕ) (r : Packed)
-    → m ≡ natAbs v → s ≡ signOf v → w ≡ d → (dropKnown d && leb m largest) ≡ true
-    → Holds number count (bits w (shapeOf w s m)) → PlacePromise buffer at (toBits count number) r last
+pub pack-is : (buffer last : List ℕ) (at : ℕ) (v : ℤ) (d s m number count : ℕ) (r : Packed)
+    → m ≡ natAbs v → s ≡ signOf v → (dropKnown d && leb m largest) ≡ true
+    → Holds number count (bits d (shapeOf d s m)) → PlacePromise buffer at (toBits count number) r last
     → PackPromise buffer at v d r last
-pack-is buffer last at v d w s m number count r em es ew t held placed =
+pack-is buffer last at v d s m number count r em es t held placed =
     let code : toBits count number ≡ codeOf d v
-    = held .bits-are ∙ ap (λ (n : ℕ). bits n (shapeOf n s m)) ew ∙ ap₂ (λ (a b : ℕ). bits d (shapeOf d a b)) es em in
+    = held .bits-are ∙ ap₂ (λ (a b : ℕ). bits d (shapeOf d a b)) es em in
     let rule : inRule v d ≡ true = ap (λ (n : ℕ). dropKnown d && leb n largest) (sym em) ∙ t in
     record {
       outcome =

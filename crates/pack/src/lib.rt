@@ -10,7 +10,7 @@ pub fn pack(buffer: &mut [u8], at: u64, v: i32, drop: u8) -> Packed
 {
     let m = code::magnitude(v);
     if code::in_rule(m, drop) {
-        let code = write::code(code::wide(drop), code::sign(v), m);
+        let code = write::code(drop, code::sign(v), m);
         write::place(buffer, at, code.number, code.count)
     } else {
         Packed::OutsideRule

@@ -6,7 +6,7 @@ ghost use lib.ListN.{length, take};
 ghost use mathlib.Core.List.{_++_};
 ghost use Rattle.ground.specs.Bits.{toBits, bitsOf};
 ghost use Rattle.ground.specs.Putting.{put as putOver};
-ghost use Rattle.code.specs.Meaning.{leastCoded, leading as leadingPlace, shapeOf, bits, coded as codedBits, bigOf, bitsThatCount, toByteEnd, largest, longestRun};
+ghost use Rattle.code.specs.Meaning.{leastCoded, leading as leadingPlace, shapeOf, bits, coded as codedBits, ledOf, leftOut, bitsThatCount, toByteEnd, largest, greatestPlace};
 ghost use Rattle.code.specs.Shapes.{Drop};
 ghost use Rattle.pack.specs.Steps.{Holds, PlacePromise, byteBits};
 
@@ -17,7 +17,7 @@ pub(crate) struct Held {
 }
 
 // The code of a sign and a magnitude inside the rule.
-pub(crate) fn code(drop: u32, sign: u32, m: u32) -> Held
+pub(crate) fn code(drop: u8, sign: u32, m: u32) -> Held
     requires { ⌜ Drop drop × (sign < 2) × (m ≤ largest) ⌝ }
     ensures { λ r. ⌜ Holds (r .number) (r .count) (bits drop (shapeOf drop sign m)) ⌝ }
 {
@@ -28,45 +28,65 @@ pub(crate) fn code(drop: u32, sign: u32, m: u32) -> Held
         };
     }
     if m < 16 {
-        return coded(sign, 0, (m >> drop) as u64, 4 - drop);
+        return small(drop, sign, m);
     }
-    if m < 32 {
-        return coded(sign, 1, (m % 16 >> (1 + drop)) as u64, 3 - drop);
-    }
-    big(drop, sign, m)
+    led(drop, sign, m)
 }
 
 // The least magnitude that has a code of its own.
-fn least_coded(drop: u32) -> u32
+fn least_coded(drop: u8) -> u32
     ensures { λ r. ⌜ r ≡ leastCoded drop ⌝ }
 {
     if drop == 0 { 1 } else { 4 }
 }
 
-// The code of a magnitude from 32 on.
-fn big(drop: u32, sign: u32, m: u32) -> Held
-    requires { ⌜ Drop drop × (sign < 2) × (32 ≤ m) × (m ≤ largest) ⌝ }
-    ensures { λ r. ⌜ Holds (r .number) (r .count) (bits drop (bigOf drop sign (leadingPlace m) m)) ⌝ }
+// The code of a magnitude under 16 that has one of its own.
+fn small(drop: u8, sign: u32, m: u32) -> Held
+    requires { ⌜ Drop drop × (sign < 2) × (m < 16) ⌝ }
+    ensures { λ r. ⌜ Holds (r .number) (r .count) (codedBits sign 0 (toBits (4 - drop) (m / 2 ^ drop))) ⌝ }
+{
+    let left = code::wide(drop);
+    coded(sign, 0, (m >> left) as u64, 4 - left)
+}
+
+// The code of a magnitude from 16 on.
+fn led(drop: u8, sign: u32, m: u32) -> Held
+    requires { ⌜ Drop drop × (sign < 2) × (16 ≤ m) × (m ≤ largest) ⌝ }
+    ensures { λ r. ⌜ Holds (r .number) (r .count) (bits drop (ledOf drop sign (leadingPlace m) m)) ⌝ }
 {
     let k = leading(m);
-    let ones = (k - 1) / 2;
+    let left = left_out(k, drop);
+    let width = k - left;
+    let x = below(m, k, left);
+    if k == 4 {
+        return coded(sign, 1, x as u64, width);
+    }
     let parity = (k - 1) % 2;
-    let width = ones + 1 - drop;
-    let x = below(m, k, ones + parity + drop);
     coded(
         sign,
-        ones,
+        (k - 1) / 2,
         join(parity as u64, 1, x as u64, width),
         1 + width,
     )
 }
 
-// The place of the leading one of a big magnitude.
+// The place of the leading one of a magnitude from 16 on.
 fn leading(m: u32) -> u32
-    requires { ⌜ (32 ≤ m) × (m ≤ largest) ⌝ }
-    ensures { λ r. ⌜ (r ≡ leadingPlace m) × (5 ≤ r) × (r < 2 * longestRun + 3) ⌝ }
+    requires { ⌜ (16 ≤ m) × (m ≤ largest) ⌝ }
+    ensures { λ r. ⌜ (r ≡ leadingPlace m) × (4 ≤ r) × (r ≤ greatestPlace) ⌝ }
 {
     31 - u32::leading_zeros(m)
+}
+
+// How many bits below the leading one the code of a magnitude leaves out, by the place of its leading one.
+fn left_out(place: u32, drop: u8) -> u32
+    ensures { λ r. ⌜ r ≡ leftOut drop place ⌝ }
+{
+    if place == 4 {
+        1 + code::wide(drop)
+    } else {
+        place / 2 + code::wide(drop)
+    }
 }
 
 // The bits below a place, without so many at the end.
@@ -74,15 +94,7 @@ fn below(m: u32, k: u32, left: u32) -> u32
     requires { ⌜ (k < 32) × (left < 32) ⌝ }
     ensures { λ r. ⌜ r ≡ m % 2 ^ k / 2 ^ left ⌝ }
 {
-    (m % power(k)) >> left
-}
-
-// A power of two.
-fn power(k: u32) -> u32
-    requires { ⌜ k < 32 ⌝ }
-    ensures { λ r. ⌜ (r ≡ 2 ^ k) × (0 < r) ⌝ }
-{
-    1 << k
+    (m % code::power(k)) >> left
 }
 
 // `1 s`, so many ones, `0`, then a field.

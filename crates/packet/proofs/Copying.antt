@@ -8,6 +8,7 @@ use native.Mathlib.Omega.{arith}
 use lib.ListN.{length, set, getD, drop-of-length-le}
 use Rattle.ground.specs.Putting.{put, Copied, copied-more}
 
+-- a text put over a part that is as long is all of it
 pub put-whole : (part text : List ℕ) → length part ≡ length text → put part 0 text ≡ text
 put-whole part text n =
     let past : length part ≤ 0 + length text = omega arith in

@@ -19,6 +19,7 @@ abbrev pub Agrees : Paper HeaderValues → List ℕ → ℕ → ℕ → Type 0
 Agrees (accepted v) part start at = (length part ≡ v .length) × (start ≡ at + 8)
 Agrees (refusal k carried) part start at = part ≡ []
 
+-- by the two tests that both calls make
 agrees-by : (l : List ℕ) (at : ℕ) (t b : Bool) → tooLong l ≡ t → stands l at ≡ b
     → Agrees (pick t (refused 1) (pick b (accepted (record { apid = apidAt l at; length = dataLength l at })) (refused 20)))
     (pick (not t && b) (take (dataLength l at) (drop (at + 8) l)) [])
@@ -27,6 +28,7 @@ agrees-by l at true b e f = refl
 agrees-by l at false true e f = (data-long l at (standing l at f), refl)
 agrees-by l at false false e f = refl
 
+-- what both calls mean, of one capture and place
 agrees : (l : List ℕ) (at : ℕ) → Agrees (headerMeans l at) (payloadMeans l at) (payloadStart l at) at
 unfolding headerMeans payloadMeans payloadStart
 agrees l at = agrees-by l at (tooLong l) (stands l at) refl refl

@@ -1,6 +1,6 @@
 -- What holds where a packet stands, and how finding goes on: what callers cite.
 -- Assumes nothing.
-use mathlib.Core.Path.{_≡_, refl}
+use mathlib.Core.Path.{_≡_}
 use mathlib.Core.Bool.{true, false}
 use mathlib.Core.List.{List}
 use Prim.Native.Nat.{ℕ, suc, _+_, _-_, _<_, _≤_}
@@ -10,9 +10,8 @@ use borrow.Author.Tests.{leb-true, ltb-true, le-leb, lt-ltb}
 use lib.Dec.{ltb}
 use lib.ListN.{length, take, drop, length-take, length-drop}
 use Rattle.ground.specs.Questions.{both-hold}
-use Rattle.ground.specs.Choice.{pick-elim}
 use Rattle.ground.specs.Paper.{accepted, refusedWith}
-use Rattle.ground.specs.Outcome.{Stays}
+use Rattle.ground.specs.Outcome.{Stays, two-stay}
 use Rattle.ground.specs.Words.{wordAt}
 use Rattle.ground.specs.Meaning.{lies}
 use Rattle.crc.specs.Meaning.{sealedAt}
@@ -85,6 +84,4 @@ find-none l at h =
 -- demand 1 of writing: where it is refused, the buffer is as it was
 pub write-stays : (buffer : List ℕ) (apid : ℕ) (payload : List ℕ) → Stays buffer (writeMeans buffer apid payload)
 unfolding writeMeans
-write-stays buffer apid payload =
-    pick-elim (Stays buffer) (ltb 8187 (length payload)) _ _ (λ large f. refl)
-    (λ small. pick-elim (Stays buffer) (ltb (length buffer) (length payload + 10)) _ _ (λ short f. refl) (λ room f. absurd (f refl)))
+write-stays buffer apid payload = two-stay (ltb 8187 (length payload)) (ltb (length buffer) (length payload + 10)) 2 3 buffer _ _

@@ -10,19 +10,19 @@ use borrow.Author.Tests.{le-ltb, ltb-false}
 use lib.Dec.{ltb}
 use lib.ListN.{length, take, drop}
 use lib.Seq.{take-at}
-use Rattle.ground.specs.Choice.{pick-elim}
-use Rattle.ground.specs.Paper.{accepted, accepted-same, refused-not}
-use Rattle.ground.specs.Outcome.{Outcome, accept, refuse}
+use Rattle.ground.specs.Paper.{accepted}
+use Rattle.ground.specs.Outcome.{accept, two-passed}
 use Rattle.ground.specs.Words.{bytesOf, wordAt, number-bytesOf}
 use Rattle.crc.specs.Meaning.{checksumOf, sealedOf, sealedAt}
 use Rattle.crc.specs.Sealing.{length-sealed, sealed-front, sealed-stands, sealed-lies}
 use Rattle.packet.specs.Meaning.{covered, packetOf, dataLength, stands, findFrom, findMeans, headerMeans, payloadMeans, writeMeans}
 use Rattle.packet.specs.Laws.{Standing, stands-so, find-here}
 
--- what the checksum covers has n+8 bytes, the whole packet n+10
+-- what a packet's checksum covers has n+8 bytes
 pub covered-length : (apid : ℕ) (payload : List ℕ) → length (covered apid payload) ≡ length payload + 8
 covered-length apid payload = omega arith
 
+-- the whole packet has n+10 bytes
 pub packet-length : (apid : ℕ) (payload : List ℕ) → length (packetOf apid payload) ≡ length payload + 10
 unfolding packetOf
 packet-length apid payload = omega (arith, length-sealed (covered apid payload), covered-length apid payload)
@@ -37,6 +37,7 @@ module _ (apid : ℕ) (payload rest : List ℕ) (small : length payload ≤ 8187
   unfolding packetOf sealedOf
   length-word = number-bytesOf 2 (length payload + 4) (omega arith)
 
+  -- so n is the length of the data
   data-length : dataLength (written apid payload rest) 0 ≡ length payload
   data-length = let same : length payload + 4 - 4 ≡ length payload = omega arith in ap (λ (w : ℕ). w - 4) length-word ∙ same
 
@@ -45,9 +46,11 @@ module _ (apid : ℕ) (payload rest : List ℕ) (small : length payload ≤ 8187
   unfolding packetOf
   summed = sealed-stands (written apid payload rest) 0 (covered apid payload) rest (length payload + 8) refl (covered-length apid payload)
 
+  -- all of it lies there
   long : length payload + 10 ≤ length (written apid payload rest)
   long = omega (arith, sealed-lies (written apid payload rest) 0 (length payload + 8) summed)
 
+  -- mark, length and checksum agree
   all-holds : Standing (written apid payload rest) 0
   unfolding packetOf sealedOf
   all-holds =
@@ -100,19 +103,11 @@ pub record Accepted (buffer : List ℕ) (apid : ℕ) (payload : List ℕ) (n : �
 pub write-accepted : (buffer : List ℕ) (apid : ℕ) (payload : List ℕ) {n : ℕ} {after : List ℕ} → accept n after ≡ writeMeans buffer apid payload
     → Accepted buffer apid payload n after
 unfolding writeMeans
-write-accepted buffer apid payload {n} {after} =
-    pick-elim Says (ltb 8187 (length payload)) _ _ (λ large. refuses)
-    (λ small. pick-elim Says (ltb (length buffer) (length payload + 10)) _ _ (λ short. refuses)
-    (λ room e.
+write-accepted buffer apid payload e =
+    let passed = two-passed (ltb 8187 (length payload)) (ltb (length buffer) (length payload + 10)) 2 3 buffer e in
     record {
-      small = ltb-false 8187 (length payload) small;
-      room = ltb-false (length buffer) (length payload + 10) room;
-      count = accepted-same (ap (λ (o : Outcome ℕ (List ℕ)). o .answer) e);
-      leaves = ap (λ (o : Outcome ℕ (List ℕ)). o .leaves) e;
-    }))
-  where
-    Says : Outcome ℕ (List ℕ) → Type 0
-    Says o = accept n after ≡ o → Accepted buffer apid payload n after
-
-    refuses : {k : ℕ} → Says (refuse k buffer)
-    refuses e = absurd (refused-not (sym (ap (λ (o : Outcome ℕ (List ℕ)). o .answer) e)))
+      small = ltb-false 8187 (length payload) (passed .first);
+      room = ltb-false (length buffer) (length payload + 10) (passed .second);
+      count = passed .value;
+      leaves = passed .leaving;
+    }

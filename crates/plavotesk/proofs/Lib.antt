@@ -1,3 +1,4 @@
+mod Doubles
 mod Leaving
 mod Parts
 mod Telling

@@ -4,7 +4,7 @@ use mathlib.Core.Bool.{not}
 use mathlib.Core.List.{List}
 use Prim.Native.Nat.{ℕ}
 use lib.Dec.{eqb}
-use lib.Ieee.{Float}
+use lib.Ieee.{Float, binary64, toBits}
 use lib.ListN.{getD, length}
 use Rattle.ground.specs.Choice.{pick}
 use Rattle.ground.specs.Outcome.{Outcome}
@@ -12,6 +12,7 @@ use Rattle.ground.specs.Paper.{Paper, accepted, refusal}
 use Rattle.packet.specs.Meaning.{FoundValues, payloadMeans, payloadStart}
 use Rattle.pages.specs.declared.Window.{Window}
 use Rattle.histogram.specs.Meaning.{Value, done, new, again}
+use Rattle.rate.specs.declared.record.Rate.{Rate}
 use Rattle.rate.specs.declared.record.Reading.{Reading}
 use Rattle.rate.specs.declared.record.Reading.the-variants.{Exact, Between}
 
@@ -41,17 +42,32 @@ toldFound (refusal n carried) held = (n, record { place = held .place; skipped =
 abbrev pub partOf : List ℕ → ℕ → ℕ × ℕ
 partOf capture at = (pick (eqb (length (payloadMeans capture at)) 0) 0 (payloadStart capture at), length (payloadMeans capture at))
 
+-- a lent double by its bits
+abbrev pub bitsOf : Float → ℕ
+bitsOf x = toBits binary64 x
+
 -- "either one exact count or a band of two counts": the low and the high edge, 1 where they are one exact count, and the next position
 pub record Edges : Type 0 where
-  pub low : Float
-  pub high : Float
+  pub low : ℕ
+  pub high : ℕ
   pub exact : ℕ
   pub next : ℕ
 
 -- the edges of a reading
 abbrev pub edgesOf : Reading → ℕ → Edges
-edgesOf (Exact count) next = record { low = count; high = count; exact = 1; next = next }
-edgesOf (Between low high) next = record { low = low; high = high; exact = 0; next = next }
+edgesOf (Exact count) next = record { low = bitsOf count; high = bitsOf count; exact = 1; next = next }
+edgesOf (Between low high) next = record { low = bitsOf low; high = bitsOf high; exact = 0; next = next }
+
+-- "both quotients and the seconds as f64", and the next position
+pub record Quotients : Type 0 where
+  pub low : ℕ
+  pub high : ℕ
+  pub seconds : ℕ
+  pub next : ℕ
+
+-- the quotients of a rate
+abbrev pub quotientsOf : Rate → ℕ → Quotients
+quotientsOf rate next = record { low = bitsOf (rate .low); high = bitsOf (rate .high); seconds = bitsOf (rate .seconds); next = next }
 
 -- what an ask's lent places take: its sum, and 1 where it was answered again
 pub record AskValues : Type 0 where

@@ -8,12 +8,11 @@ use Rattle.ground.specs.Paper.{Paper, one-value}
 use Rattle.packet.specs.Meaning.{FoundValues, HeaderValues}
 use Rattle.message.specs.Meaning.{ReadValues}
 use Rattle.code.specs.Meaning.{UnpackValues}
-use Rattle.rate.specs.Meaning.{RateValues}
 use Rattle.format.specs.Meaning.{floatValue}
 use Rattle.format.specs.Codes.{takes-one}
 use Rattle.cadence.specs.Sentence.{level-one}
 use Rattle.pages.specs.declared.Window.{Window}
-use Rattle.plavotesk.specs.Meaning.{told, interface, AskValues, Edges}
+use Rattle.plavotesk.specs.Meaning.{told, interface, AskValues, Edges, Quotients}
 use Rattle.plavotesk.specs.Promise.{PacketFindPromise, PacketHeaderPromise, PacketPayloadPromise, PacketWritePromise}
 use Rattle.plavotesk.specs.Promise.{MessageReadPromise, MessageWritePromise, CodePackPromise, CodeUnpackPromise, ReadingPromise, RatePromise}
 use Rattle.plavotesk.specs.Promise.{Sentence, Float16CodePromise, Float8CodePromise, Int24Promise, LevelSecondsPromise}
@@ -61,7 +60,7 @@ plv-code-unpack-one bytes at drop held o p = one-value
 pub plv-reading-one : (bytes : List ℕ) (at drop : ℕ) (held : Edges) → One (ReadingPromise bytes at drop held)
 plv-reading-one bytes at drop held o p = one-value
 
-pub plv-rate-one : (bytes : List ℕ) (at drop level : ℕ) (held : RateValues) → One (RatePromise bytes at drop level held)
+pub plv-rate-one : (bytes : List ℕ) (at drop level : ℕ) (held : Quotients) → One (RatePromise bytes at drop level held)
 plv-rate-one bytes at drop level held o p = one-value
 
 -- formats

@@ -14,7 +14,7 @@ use Rattle.format.specs.Meaning.{floatValue, Takes, int24Means}
 use Rattle.cadence.specs.Meaning.{Begins, Ends, secondsMeans}
 use Rattle.pages.specs.declared.Window.{Window}
 use Rattle.histogram.specs.Meaning.{CallOutcome, Fed, Lent, askMeans, flipMeans, incrementMeans, incrementsMeans, nextMeans, openMeans}
-use Rattle.plavotesk.specs.Meaning.{toldAs, told, toldWith, toldFound, partOf, Edges, edgesOf, AskValues, toldAsk}
+use Rattle.plavotesk.specs.Meaning.{toldAs, told, toldWith, toldFound, partOf, Edges, edgesOf, AskValues, toldAsk, Quotients, quotientsOf}
 
 -- finding: the first packet's place, and the bytes skipped before it, with 20 as well
 abbrev pub PacketFindPromise : List ℕ → FoundValues → ℕ × FoundValues → Type 0
@@ -54,8 +54,9 @@ ReadingPromise bytes at drop held o =
     o ≡ toldAs (λ (v : ReadingValues). edgesOf (v .reading) (v .next)) (readingMeans bytes at drop) held
 
 -- forming a rate: both quotients, the seconds, and the next position
-abbrev pub RatePromise : List ℕ → ℕ → ℕ → ℕ → RateValues → ℕ × RateValues → Type 0
-RatePromise bytes at drop level held o = o ≡ told (rateMeans bytes at drop level) held
+abbrev pub RatePromise : List ℕ → ℕ → ℕ → ℕ → Quotients → ℕ × Quotients → Type 0
+RatePromise bytes at drop level held o =
+    o ≡ toldAs (λ (v : RateValues). quotientsOf (v .rate) (v .next)) (rateMeans bytes at drop level) held
 
 -- a call by a sentence of document 01 that is no equation: an answer of which the sentence holds, and what is told of it
 pub record Sentence (Holds : Paper ℕ → Type 0) (held : ℕ) (o : ℕ × ℕ) : Type 0 where

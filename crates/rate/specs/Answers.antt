@@ -1,32 +1,16 @@
 -- What each answer is on document 01's paper, and the way back.
 -- Assumes nothing.
-use mathlib.Core.Path.{_≡_, refl}
-use Prim.Native.Nat.{ℕ}
+use mathlib.Core.Path.{_≡_, refl, ap}
 use lib.Dec.{eqb}
 use Rattle.ground.specs.Choice.{pick}
 use Rattle.ground.specs.Paper.{Paper, accepted, refusal, refused}
-use Rattle.rate.specs.declared.Refusal.{Refusal}
-use Rattle.rate.specs.declared.Refusal.the-variants.{OutsideRule, RanOut, RedundantZero, RunTooLong}
+use Rattle.code.specs.declared.Refusal.the-variants.{OutsideRule, RanOut, RedundantZero, RunTooLong}
+use Rattle.code.specs.Answers.{refusalPaper, refusalBack, refusal-home}
 use Rattle.rate.specs.declared.ReadingAnswer.{ReadingAnswer}
 use Rattle.rate.specs.declared.ReadingAnswer.the-variants as C
 use Rattle.rate.specs.declared.RateAnswer.{RateAnswer}
 use Rattle.rate.specs.declared.RateAnswer.the-variants as R
-use Rattle.rate.specs.Meaning.{refusalNumber, ReadingValues, RateValues}
-
--- a refusal by its number
-abbrev pub refusalPaper : {A : Type 0} → Refusal → Paper A
-refusalPaper why = refused (refusalNumber why)
-
--- the refusal of a number
-abbrev pub refusalBack : ℕ → Refusal
-refusalBack n = pick (eqb n 8) OutsideRule (pick (eqb n 9) RanOut (pick (eqb n 10) RedundantZero RunTooLong))
-
--- a refusal is the one of its number
-pub refusal-home : (why : Refusal) → refusalBack (refusalNumber why) ≡ why
-refusal-home OutsideRule = refl
-refusal-home RanOut = refl
-refusal-home RedundantZero = refl
-refusal-home RunTooLong = refl
+use Rattle.rate.specs.Meaning.{ReadingValues, RateValues}
 
 -- the reading and the next position; 8, 9, 10 or 11
 abbrev pub readingPaper : ReadingAnswer → Paper ReadingValues
@@ -41,10 +25,7 @@ readingBack (refusal n carried) = C.Refused (refusalBack n)
 -- an answer is the one that reads as it does
 pub reading-home : (a : ReadingAnswer) → readingBack (readingPaper a) ≡ a
 reading-home (C.Counts reading next) = refl
-reading-home (C.Refused OutsideRule) = refl
-reading-home (C.Refused RanOut) = refl
-reading-home (C.Refused RedundantZero) = refl
-reading-home (C.Refused RunTooLong) = refl
+reading-home (C.Refused why) = ap C.Refused (refusal-home why)
 
 -- the rate and the next position; 8, 9, 10, 11 or 19
 abbrev pub ratePaper : RateAnswer → Paper RateValues

@@ -6,12 +6,16 @@ use Prim.Native.Nat.{ℕ, zero, suc, _+_, _*_, _-_, _^_, _<_, _≤_}
 use native.Mathlib.Nat.{le-trans, pow-suc}
 use native.Mathlib.Omega.{arith}
 use lib.IntN.{ℤ, natAbs}
-use lib.Pow.{pow-pos, pow-mono}
+use lib.Pow.{pow-pos}
 use borrow.Author.Tests.{eq-eqb, eqb-true}
-use Rattle.code.specs.Meaning.{Shape, nought, small, mid, big, shapeOfNumber, signOf, magnitude, filled, largest}
-use Rattle.code.specs.Shapes.{Drop, none, three, Valid}
-use Rattle.code.specs.Magnitudes.{lowest, highest, shape-bounds, number-valid, magnitude-fits, drop-small}
-use Rattle.rate.specs.Meaning.{error, Band, band, exact}
+use Rattle.code.specs.Meaning.{Shape, nought, small, led, shapeOfNumber, signOf, magnitude, error, lowest, highest, leftOut, filled, greatestPlace, largest}
+use Rattle.code.specs.Shapes.{Drop, none, three, below-led, Valid}
+use Rattle.code.specs.Magnitudes.{places, shape-bounds, number-valid, magnitude-fits, error-fits}
+use Rattle.rate.specs.Meaning.{Band, band, exact}
+
+-- the band of a shape
+abbrev pub bandOf : ℕ → Shape → Band
+bandOf d shape = band (magnitude d shape) (error d shape)
 
 -- a count within a band
 pub record Within (m : ℕ) (b : Band) : Type 0 where
@@ -20,8 +24,8 @@ pub record Within (m : ℕ) (b : Band) : Type 0 where
 
 -- the band of a shape spans the magnitudes that have the shape
 pub record Spans (d : ℕ) (shape : Shape) : Type 0 where
-  pub below : band d shape .low ≤ lowest d shape
-  pub above : highest d shape ≤ band d shape .high
+  pub below : bandOf d shape .low ≤ lowest d shape
+  pub above : highest d shape ≤ bandOf d shape .high
 
 -- a field with e bits left out, e at least 1, under a leading part: half of the left out on both sides spans all of them
 spans-field : (lead e x : ℕ) → 1 ≤ e
@@ -39,57 +43,42 @@ spans-small (suc zero) h = record { below = omega arith; above = omega arith }
 spans-small (suc (suc x)) h = absurd (omega arith)
 
 -- so does every valid one
-pub band-spans : (d : ℕ) (shape : Shape) → Drop d → Valid d shape → Spans d shape
+pub band-spans : (d : ℕ) (shape : Shape) → Drop d → Valid greatestPlace d shape → Spans d shape
 band-spans d nought none v = record { below = omega arith; above = omega arith }
 band-spans d nought three v = record { below = omega arith; above = omega arith }
 band-spans d (small s x) none v = record { below = omega arith; above = omega arith }
 band-spans d (small s x) three v = let p = spans-small x (v .1) in record { below = p .below; above = p .above }
-band-spans d (mid s x) dr v = let p = spans-field 16 (1 + d) x (omega arith) in record { below = p .0; above = p .1 }
-band-spans d (big s ones p x) dr v =
-    let q = spans-field (2 ^ (2 * ones + 1 + p)) (ones + p + d) x (omega (arith, v .1)) in record { below = q .0; above = q .1 }
+band-spans d (led s k x) dr v = let p = spans-field (2 ^ k) (leftOut d k) x (below-led k dr (v .1) .some) in record { below = p .0; above = p .1 }
 
 -- every number that packs lies within the band of its code
-pub packs-within : (d : ℕ) (v : ℤ) → Drop d → natAbs v ≤ largest → Within (natAbs v) (band d (shapeOfNumber d v))
+pub packs-within : (d : ℕ) (v : ℤ) → Drop d → natAbs v ≤ largest → Within (natAbs v) (bandOf d (shapeOfNumber d v))
 packs-within d v dr h =
-    let s = band-spans d (shapeOfNumber d v) dr (number-valid d v dr h) in
+    let s = band-spans d (shapeOfNumber d v) dr (number-valid greatestPlace places d v dr h) in
     let b = shape-bounds d (signOf v) (natAbs v) (omega arith) in
     record { from = le-trans (s .below) (b .0); to = le-trans (b .1) (s .above) }
 
 -- exact means that the band is one count, the decoded one
-pub exact-one : (d : ℕ) (shape : Shape) → exact d shape ≡ true → band d shape ≡ record { low = magnitude d shape; high = magnitude d shape }
-exact-one d shape t =
-    let e : error d shape ≡ 0 = eqb-true (error d shape) 0 t in
-    let low : magnitude d shape - error d shape ≡ magnitude d shape = omega arith in
-    let high : magnitude d shape + error d shape ≡ magnitude d shape = omega arith in
+pub exact-one : (m error : ℕ) → exact error ≡ true → band m error ≡ record { low = m; high = m }
+exact-one m error t =
+    let e : error ≡ 0 = eqb-true error 0 t in
+    let low : m - error ≡ m = omega arith in
+    let high : m + error ≡ m = omega arith in
     ap₂ (λ (a b : ℕ). record { low = a; high = b }) low high
 
 -- and a band of one count is exact
-pub one-exact : (d : ℕ) (shape : Shape) → band d shape .low ≡ band d shape .high → exact d shape ≡ true
-one-exact d shape h = eq-eqb (error d shape) 0 (omega arith)
+pub one-exact : (m error : ℕ) → band m error .low ≡ band m error .high → exact error ≡ true
+one-exact m error h = eq-eqb error 0 (omega arith)
 
 -- so the decoded magnitude of an exact code is the one that was packed
-pub exact-packed : (d : ℕ) (v : ℤ) → Drop d → natAbs v ≤ largest → exact d (shapeOfNumber d v) ≡ true → magnitude d (shapeOfNumber d v) ≡ natAbs v
+pub exact-packed : (d : ℕ) (v : ℤ) → Drop d → natAbs v ≤ largest → exact (error d (shapeOfNumber d v)) ≡ true → magnitude d (shapeOfNumber d v) ≡ natAbs v
 exact-packed d v dr h t =
     let w = packs-within d v dr h in
-    let one = exact-one d (shapeOfNumber d v) t in
-    let low : band d (shapeOfNumber d v) .low ≡ magnitude d (shapeOfNumber d v) = ap (λ (b : Band). b .low) one in
-    let high : band d (shapeOfNumber d v) .high ≡ magnitude d (shapeOfNumber d v) = ap (λ (b : Band). b .high) one in
+    let none : error d (shapeOfNumber d v) ≡ 0 = eqb-true (error d (shapeOfNumber d v)) 0 t in
     omega (arith, w .from, w .to)
 
--- no error is above 2^14
-error-small : (d : ℕ) (shape : Shape) → Drop d → Valid d shape → error d shape ≤ 2 ^ 14
-error-small d nought none v = omega arith
-error-small d nought three v = omega arith
-error-small d (small s x) none v = omega arith
-error-small d (small s x) three v = omega arith
-error-small d (mid s x) none v = omega arith
-error-small d (mid s x) three v = omega arith
-error-small d (big s ones p x) dr v =
-    pow-mono {i = ones + p + d - 1} {j = 14} (omega (arith, drop-small dr, v .2, v .3))
-
 -- every edge fits 32 bits
-pub band-fits : (d : ℕ) (shape : Shape) → Drop d → Valid d shape → (band d shape .low < 2 ^ 32) × (band d shape .high < 2 ^ 32)
+pub band-fits : (d : ℕ) (shape : Shape) → Drop d → Valid greatestPlace d shape → (bandOf d shape .low < 2 ^ 32) × (bandOf d shape .high < 2 ^ 32)
 band-fits d shape dr v =
-    let m = magnitude-fits d shape dr v in
-    let e = error-small d shape dr v in
+    let m = magnitude-fits greatestPlace places d shape dr v in
+    let e = error-fits greatestPlace places d shape dr v in
     (omega arith, omega arith)

@@ -1,38 +1,19 @@
--- Rows of the tables and document 01's codes, by computing.
+-- Bands, readings and refusals, by computing; `code` has the errors of tables 14 and 15.
 -- Assumes nothing.
 use mathlib.Core.Path.{_≡_, refl}
-use mathlib.Core.List.{List, [], _∷_}
-use Prim.Native.Nat.{ℕ}
+use mathlib.Core.List.{[], _∷_}
 use Rattle.ground.specs.Paper.{accepted, refused}
-use Rattle.code.specs.Meaning.{nought, small, mid, big, parse, afterSign, bitsThatCount}
+use Rattle.code.specs.Meaning.{nought, led, parse, afterSign, bitsThatCount}
 use Rattle.rate.specs.declared.record.Reading.the-variants.{Exact, Between}
-use Rattle.rate.specs.Meaning.{error, band, asFloat, readingMeans, rateMeans}
-
--- the second column of a table, from the row of 0 to that of 65536 to 131071
-abbrev pub column : ℕ → List ℕ
-column d =
-    error d nought ∷ error d (small 0 1) ∷ error d (mid 0 0)
-    ∷ error d (big 0 2 0 0) ∷ error d (big 0 2 1 0)
-    ∷ error d (big 0 3 0 0) ∷ error d (big 0 3 1 0)
-    ∷ error d (big 0 4 0 0) ∷ error d (big 0 4 1 0)
-    ∷ error d (big 0 5 0 0) ∷ error d (big 0 5 1 0)
-    ∷ error d (big 0 6 0 0) ∷ error d (big 0 6 1 0)
-    ∷ error d (big 0 7 0 0) ∷ error d (big 0 7 1 0) ∷ []
-
--- table 14 of 000
-pub table-14 : column 0 ≡ 0 ∷ 0 ∷ 1 ∷ 2 ∷ 4 ∷ 4 ∷ 8 ∷ 8 ∷ 16 ∷ 16 ∷ 32 ∷ 32 ∷ 64 ∷ 64 ∷ 128 ∷ []
-table-14 = refl
-
--- table 15 of 000
-pub table-15 : column 3 ≡ 3 ∷ 4 ∷ 8 ∷ 16 ∷ 32 ∷ 32 ∷ 64 ∷ 64 ∷ 128 ∷ 128 ∷ 256 ∷ 256 ∷ 512 ∷ 512 ∷ 1024 ∷ []
-table-15 = refl
+use Rattle.rate.specs.Meaning.{asFloat, readingMeans, rateMeans}
+use Rattle.rate.specs.Bands.{bandOf}
 
 -- drop 0's `101100000` is laid from 31 to 35
-pub band-of-32 : band 0 (big 0 2 0 0) ≡ record { low = 31; high = 35 }
+pub band-of-32 : bandOf 0 (led 0 5 0) ≡ record { low = 31; high = 35 }
 band-of-32 = refl
 
 -- drop 3's `0` is not laid under 0
-pub band-of-nought : band 3 nought ≡ record { low = 0; high = 3 }
+pub band-of-nought : bandOf 3 nought ≡ record { low = 0; high = 3 }
 band-of-nought = refl
 
 -- drop 0's `1000101` is read as 5

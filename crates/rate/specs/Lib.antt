@@ -8,4 +8,5 @@ pub mod Bands
 pub mod Packed
 pub mod Lossless
 pub mod Quotients
+pub mod Numbers
 pub mod Cases

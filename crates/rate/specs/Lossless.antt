@@ -9,12 +9,12 @@ use lib.Dec.{T, le→leb}
 use lib.Ieee.{binary64, ofInt, inFloat, toUnsigned}
 use lib.Ieee.Exact.{HasValue}
 use lib.Ieee.Back.{unsigned-back, round-whole}
-use Rattle.code.specs.Meaning.{Shape}
+use Rattle.code.specs.Meaning.{Shape, greatestPlace}
 use Rattle.code.specs.Shapes.{Drop, Valid}
 use Rattle.cadence.specs.Meaning.{lengthOf}
 use Rattle.cadence.specs.Lengths.{lasts}
-use Rattle.rate.specs.Meaning.{band, asFloat}
-use Rattle.rate.specs.Bands.{band-fits}
+use Rattle.rate.specs.Meaning.{asFloat}
+use Rattle.rate.specs.Bands.{bandOf, band-fits}
 
 -- a count of 32 bits is a whole number that an f64 holds
 pub held : (n : ℕ) → n < 2 ^ 32 → T (inFloat binary64 (pos n))
@@ -35,11 +35,11 @@ pub counts-apart : (m n : ℕ) → m < 2 ^ 32 → n < 2 ^ 32 → asFloat m ≡ a
 counts-apart m n h k e = sym (no-loss m h) ∙ ap (toUnsigned 32) e ∙ no-loss n k
 
 -- nothing is lost of either edge of a code that is read
-pub edges-no-loss : (d : ℕ) (shape : Shape) → Drop d → Valid d shape
-    → (toUnsigned 32 (asFloat (band d shape .low)) ≡ band d shape .low) × (toUnsigned 32 (asFloat (band d shape .high)) ≡ band d shape .high)
+pub edges-no-loss : (d : ℕ) (shape : Shape) → Drop d → Valid greatestPlace d shape
+    → (toUnsigned 32 (asFloat (bandOf d shape .low)) ≡ bandOf d shape .low) × (toUnsigned 32 (asFloat (bandOf d shape .high)) ≡ bandOf d shape .high)
 edges-no-loss d shape dr v =
     let f = band-fits d shape dr v in
-    (no-loss (band d shape .low) (f .0), no-loss (band d shape .high) (f .1))
+    (no-loss (bandOf d shape .low) (f .0), no-loss (bandOf d shape .high) (f .1))
 
 -- nor of the seconds of a level
 pub seconds-no-loss : (level : ℕ) → level ≤ 7 → toUnsigned 32 (asFloat (lengthOf level)) ≡ lengthOf level

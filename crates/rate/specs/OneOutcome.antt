@@ -4,10 +4,8 @@ use mathlib.Core.Path.{_≡_}
 use mathlib.Core.List.{List}
 use Prim.Native.Nat.{ℕ}
 use Rattle.ground.specs.Paper.{numberOf, one-answer, one-value}
-use Rattle.rate.specs.declared.Refusal.{Refusal}
 use Rattle.rate.specs.declared.ReadingAnswer.{ReadingAnswer}
 use Rattle.rate.specs.declared.RateAnswer.{RateAnswer}
-use Rattle.rate.specs.Meaning.{refusalNumber}
 use Rattle.rate.specs.Answers.{readingPaper, readingBack, reading-home, ratePaper, rateBack, rate-home}
 use Rattle.rate.specs.Promise.{ReadingPromise, RatePromise}
 
@@ -26,7 +24,3 @@ reading-number-one a p q = one-value p q
 -- one number for a rate's answer
 pub rate-number-one : (a : RateAnswer) {x y : ℕ} → x ≡ numberOf (ratePaper a) → y ≡ numberOf (ratePaper a) → x ≡ y
 rate-number-one a p q = one-value p q
-
--- one number for a refusal
-pub refusal-number-one : (why : Refusal) {x y : ℕ} → x ≡ refusalNumber why → y ≡ refusalNumber why → x ≡ y
-refusal-number-one why p q = one-value p q

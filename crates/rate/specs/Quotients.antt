@@ -10,16 +10,9 @@ use lib.Ieee.{Float, nan, inf, fin, Format, binary64, low, emax, prec, up, down,
 use lib.Ieee.Exact.{HasValue}
 use lib.Ieee.Fits.{down-pos}
 use borrow.Author.Tests.{ne-eqb}
-use Rattle.ground.specs.Choice.{pick-elim}
-use Rattle.code.specs.Meaning.{Shape, magnitude}
-use Rattle.code.specs.Shapes.{Drop, Valid}
-use Rattle.code.specs.Magnitudes.{magnitude-fits}
 use Rattle.cadence.specs.Meaning.{lengthOf}
 use Rattle.cadence.specs.Lengths.{lasts}
-use Rattle.rate.specs.declared.record.Reading.{Reading}
-use Rattle.rate.specs.declared.record.Reading.the-variants.{Exact, Between}
-use Rattle.rate.specs.Meaning.{band, exact, asFloat, readingOf, rateOf}
-use Rattle.rate.specs.Bands.{band-fits}
+use Rattle.rate.specs.Meaning.{asFloat}
 use Rattle.rate.specs.Lossless.{same-value}
 
 -- a number with its trailing zeros cut off is a number
@@ -41,7 +34,7 @@ some-units f s q k =
     number-or-infinity (ltb (q * 2 ^ k) (2 ^ (low f + suc (emax f)))) s (odd (suc (prec f)) s q k (low f)) (odd-number (suc (prec f)) s q k (low f))
 
 -- what is rounded is no NaN
-rounded : (f : Format) (s : Bool) (num den : ℕ) → isNan (round f s num den) ≡ false
+pub rounded : (f : Format) (s : Bool) (num den : ℕ) → isNan (round f s num den) ≡ false
 unfolding round
 rounded f s num den =
     let n : ℕ = num * 2 ^ low f in
@@ -68,15 +61,3 @@ pub no-nan : (n level : ℕ) → n < 2 ^ 32 → level ≤ 7 → isNan (div binar
 no-nan n level h k =
     let l = lasts level k in
     divides binary64 (asFloat n) (asFloat (lengthOf level)) n (lengthOf level) (same-value n h) (same-value (lengthOf level) (omega (arith, l .hour))) (l .some)
-
--- neither quotient of a rate is
-pub rate-numbers : (d level : ℕ) (shape : Shape) → Drop d → Valid d shape → level ≤ 7
-    → (isNan (rateOf (readingOf d shape) (lengthOf level) .low) ≡ false) × (isNan (rateOf (readingOf d shape) (lengthOf level) .high) ≡ false)
-rate-numbers d level shape dr v h =
-    let fits = band-fits d shape dr v in
-    let m : magnitude d shape < 2 ^ 32 = omega (arith, magnitude-fits d shape dr v) in
-    pick-elim (λ (r : Reading). (isNan (rateOf r (lengthOf level) .low) ≡ false) × (isNan (rateOf r (lengthOf level) .high) ≡ false)) (exact d shape)
-    (Exact (asFloat (magnitude d shape)))
-    (Between (asFloat (band d shape .low)) (asFloat (band d shape .high)))
-    (λ e. (no-nan (magnitude d shape) level m h, no-nan (magnitude d shape) level m h))
-    (λ e. (no-nan (band d shape .low) level (fits .0) h, no-nan (band d shape .high) level (fits .1) h))

@@ -1,81 +1,54 @@
--- What callers use of readings and rates: what a code that was read gives, and which refusal comes when.
+-- What callers use of readings and rates: what a shape that was read gives, and which refusal comes when.
 -- Assumes nothing.
-use mathlib.Core.Path.{_≡_, refl, sym, ap, ap₂, _∙_, subst}
+use mathlib.Core.Path.{_≡_, refl, ap, _∙_}
 use mathlib.Core.Bool.{true, false}
 use mathlib.Core.List.{List}
-use Prim.Native.Nat.{ℕ, zero, suc, _+_, _<_, _≤_}
+use Prim.Native.Nat.{ℕ, zero, suc, _<_, _≤_}
 use native.Mathlib.Omega.{arith}
-use lib.ListN.{length}
 use borrow.Author.Tests.{lt-ltb, le-ltb}
-use Rattle.ground.specs.Paper.{Paper, accepted, refused, onward}
-use Rattle.code.specs.Meaning.{Shape, magnitude, signed, sign, value, found, parseAt, bits, UnpackValues, answerOf, unpackMeans, bitsThatCount}
-use Rattle.code.specs.Shapes.{Drop, drop-of, drop-is-known, Valid}
-use Rattle.code.specs.Magnitudes.{magnitude-positive}
-use Rattle.code.specs.Theorems.{read-at, reads-shape}
+use Rattle.ground.specs.Paper.{accepted, refused, onward}
+use Rattle.code.specs.Meaning.{ShapeValues, signed, numberRead, shapeMeans}
+use Rattle.code.specs.Theorems.{read-fits}
 use Rattle.cadence.specs.Meaning.{lengthOf, secondsMeans}
 use Rattle.rate.specs.declared.record.Reading.the-variants.{Exact, Between}
-use Rattle.rate.specs.Meaning.{band, exact, asFloat, readingOf, rateOf, ReadingValues, codeRead, negative, numberReads, readingMeans}
+use Rattle.rate.specs.Meaning.{band, exact, asFloat, readingOf, rateOf, ReadingValues, negative, shapeReads, readingMeans}
 use Rattle.rate.specs.Meaning.{rateValues, rateMeans}
 
--- an accepted code: a known drop, and a valid code, whose value the number is
-pub record WasRead (bytes : List ℕ) (at d : ℕ) (t : UnpackValues) : Type 0 where
-  pub known : Drop d
-  pub valid : Valid d (codeRead (parseAt bytes at d))
-  pub value-is : t .value ≡ value d (codeRead (parseAt bytes at d))
-
--- what is accepted was read
-pub was-accepted : (bytes : List ℕ) (at d : ℕ) (t : UnpackValues) → unpackMeans bytes at d ≡ accepted t → WasRead bytes at d t
-was-accepted bytes at d t e =
-    let r = read-at bytes at d e in
-    let room : at + length (bits d (r .shape)) ≤ length (bitsThatCount bytes) = omega (arith, r .after, r .inside) in
-    let same : codeRead (parseAt bytes at d) ≡ r .shape = ap codeRead (reads-shape bytes at d (r .shape) (r .valid) room (r .stands)) in
-    record {
-      known = drop-of d (r .known);
-      valid = subst (Valid d) (sym same) (r .valid);
-      value-is = r .number ∙ ap (value d) (sym same);
-    }
-
 -- a code with no error is read as its magnitude
-pub reads-one : (d : ℕ) (shape : Shape) → exact d shape ≡ true → readingOf d shape ≡ Exact (asFloat (magnitude d shape))
-reads-one d shape t = rw t
+pub reads-one : (m error : ℕ) → exact error ≡ true → readingOf m error ≡ Exact (asFloat m)
+reads-one m error t = rw t
 
 -- any other is read as its band
-pub reads-two : (d : ℕ) (shape : Shape) → exact d shape ≡ false → readingOf d shape ≡ Between (asFloat (band d shape .low)) (asFloat (band d shape .high))
-reads-two d shape t = rw t
+pub reads-two : (m error : ℕ) → exact error ≡ false → readingOf m error ≡ Between (asFloat (band m error .low)) (asFloat (band m error .high))
+reads-two m error t = rw t
 
 -- "an exact count gives two equal quotients"
 pub equal-quotients : (count : lib.Ieee.Float) (seconds : ℕ) → rateOf (Exact count) seconds .low ≡ rateOf (Exact count) seconds .high
 equal-quotients count seconds = refl
 
+-- what is negated back is under 0
+below : (m : ℕ) → 1 ≤ m → negative (signed 1 m) ≡ true
+below zero h = absurd (omega arith)
+below (suc m) h = refl
+
 module _ (bytes : List ℕ) (at d : ℕ) where
   -- the code's refusal is the reading's
-  pub code-refused : {n : ℕ} → unpackMeans bytes at d ≡ refused n → readingMeans bytes at d ≡ refused n
-  code-refused e = ap (onward (numberReads d (codeRead (parseAt bytes at d)))) e
+  pub code-refused : {n : ℕ} → shapeMeans bytes at d ≡ refused n → readingMeans bytes at d ≡ refused n
+  code-refused e = ap (onward shapeReads) e
 
-  module _ (shape : Shape) (rest : List ℕ) (dr : Drop d) (e : parseAt bytes at d ≡ found shape rest) where
-    -- what the code gives, its sign decides
-    by-sign : readingMeans bytes at d ≡ numberReads d shape (record { value = value d shape; next = at + length (bits d shape) })
-    by-sign =
-        let taken : unpackMeans bytes at d ≡ answerOf d at (parseAt bytes at d) = rw (drop-is-known dr) in
-        ap₂ (λ (s : Shape) (p : Paper UnpackValues). onward (numberReads d s) p) (ap codeRead e) (taken ∙ ap (answerOf d at) e)
-
+  module _ {v : ShapeValues} (e : shapeMeans bytes at d ≡ accepted v) where
     -- a code with the sign 0 has its reading, and the position after the code
-    pub found-reads : sign shape ≡ 0 → readingMeans bytes at d ≡ accepted (record { reading = readingOf d shape; next = at + length (bits d shape) })
-    found-reads z =
-        let plus : negative (value d shape) ≡ false = ap (λ (s : ℕ). negative (signed s (magnitude d shape))) z in
-        by-sign ∙ rw plus
+    pub count-reads : v .sign ≡ 0 → readingMeans bytes at d ≡ accepted (record { reading = readingOf (v .magnitude) (v .error); next = v .next })
+    count-reads z =
+        let plus : negative (numberRead v .value) ≡ false = ap (λ (s : ℕ). negative (signed s (v .magnitude))) z in
+        ap (onward shapeReads) e ∙ rw plus
 
     -- a code with the sign 1 means a negative number, which has no reading
-    pub negative-refused : Valid d shape → sign shape ≡ 1 → readingMeans bytes at d ≡ refused 8
-    negative-refused v o =
-        let some = magnitude-positive d shape dr v o in
-        let minus : negative (value d shape) ≡ true =
-        ap (λ (s : ℕ). negative (signed s (magnitude d shape))) o ∙ below (magnitude d shape) some in
-        by-sign ∙ rw minus
-      where
-        below : (m : ℕ) → 1 ≤ m → negative (signed 1 m) ≡ true
-        below zero h = absurd (omega arith)
-        below (suc m) h = refl
+    pub negative-refused : v .sign ≡ 1 → readingMeans bytes at d ≡ refused 8
+    negative-refused o =
+        let minus : negative (numberRead v .value) ≡ true
+        = ap (λ (s : ℕ). negative (signed s (v .magnitude))) o ∙ below (v .magnitude) (read-fits bytes at d e .some o) in
+        ap (onward shapeReads) e ∙ rw minus
 
   -- the reading's refusal is the rate's, whatever the level
   pub reading-refused : (level : ℕ) {n : ℕ} → readingMeans bytes at d ≡ refused n → rateMeans bytes at d level ≡ refused n

@@ -3,23 +3,15 @@ mod band;
 pub mod record;
 
 use cadence::Length;
-use code::Unpacked;
+use code::Refusal;
+use code::ShapeAnswer;
 use record::Rate;
 use record::Reading;
 ghost use mathlib.Core.Path.{_≡_};
 ghost use Rattle.ground.specs.Paper.{numberOf};
-ghost use Rattle.rate.specs.Meaning.{refusalNumber};
 ghost use Rattle.rate.specs.Answers.{readingPaper, ratePaper};
 ghost use Rattle.rate.specs.Promise.{ReadingPromise, RatePromise};
-ghost use Rattle.rate.specs.Steps.{refusalOf, refusalIn};
-
-// Why a code has no reading: a drop or a number outside the rule, bits that ran out, a redundant zero, a run too long.
-pub enum Refusal {
-    OutsideRule,
-    RanOut,
-    RedundantZero,
-    RunTooLong,
-}
+ghost use Rattle.rate.specs.Steps.{refusalIn};
 
 // What reading counts answers: the reading and the next bit position, or why there is none.
 pub enum ReadingAnswer {
@@ -38,15 +30,21 @@ pub enum RateAnswer {
 pub fn reading(bytes: &[u8], at: u64, drop: u8) -> ReadingAnswer
     ensures { λ r. ⌜ ReadingPromise (now (bytes .entry)) at drop r ⌝ }
 {
-    let answer = unpack::unpack(bytes, at, drop);
-    let Unpacked::Number { value, next } = answer else {
-        return ReadingAnswer::Refused(handed(answer));
+    let answer = unpack::shape(bytes, at, drop);
+    let ShapeAnswer::Shape {
+        sign,
+        magnitude,
+        error,
+        next,
+    } = answer
+    else {
+        return ReadingAnswer::Refused(code::reason(answer));
     };
-    if code::sign(value) == 1 {
+    if sign == 1 {
         return ReadingAnswer::Refused(Refusal::OutsideRule);
     }
     ReadingAnswer::Counts {
-        reading: band::counts(code::magnitude(value), drop as u32),
+        reading: band::counts(magnitude, error),
         next,
     }
 }
@@ -59,7 +57,7 @@ pub fn rate(bytes: &[u8], at: u64, drop: u8, level: u8) -> RateAnswer
     let ReadingAnswer::Counts { reading, next } = answer else {
         return RateAnswer::Refused(reason(answer));
     };
-    let length = cadence::seconds(level);
+    let length = cadence::level_seconds(level);
     let Length::Seconds(seconds) = length else {
         return RateAnswer::OutOfRange;
     };
@@ -78,7 +76,7 @@ pub fn reading_number(a: ReadingAnswer) -> u8
             reading: _,
             next: _,
         } => 0,
-        ReadingAnswer::Refused(why) => refusal_number(why),
+        ReadingAnswer::Refused(why) => code::refusal_number(why),
     }
 }
 
@@ -88,33 +86,8 @@ pub fn rate_number(a: RateAnswer) -> u8
 {
     match a {
         RateAnswer::Formed { rate: _, next: _ } => 0,
-        RateAnswer::Refused(why) => refusal_number(why),
+        RateAnswer::Refused(why) => code::refusal_number(why),
         RateAnswer::OutOfRange => 19,
-    }
-}
-
-// Document 01's number of a refusal.
-pub fn refusal_number(why: Refusal) -> u8
-    ensures { λ r. ⌜ r ≡ refusalNumber why ⌝ }
-{
-    match why {
-        Refusal::OutsideRule => 8,
-        Refusal::RanOut => 9,
-        Refusal::RedundantZero => 10,
-        Refusal::RunTooLong => 11,
-    }
-}
-
-// A code's refusal, handed on as it is.
-fn handed(answer: Unpacked) -> Refusal
-    ensures { λ r. ⌜ r ≡ refusalOf answer ⌝ }
-{
-    match answer {
-        Unpacked::Number { value: _, next: _ } => Refusal::OutsideRule,
-        Unpacked::OutsideRule => Refusal::OutsideRule,
-        Unpacked::RanOut => Refusal::RanOut,
-        Unpacked::RedundantZero => Refusal::RedundantZero,
-        Unpacked::RunTooLong => Refusal::RunTooLong,
     }
 }
 

@@ -30,9 +30,16 @@ pub fn moved_to<'a>(r: Reader<'a>, at: u64) -> Reader<'a>
     Reader { bytes: r.bytes, at }
 }
 
-// A reader made at a position and asked: whoever calls this holds no reader.
+// A reader made at a position, moved to another and asked there: whoever calls this holds no reader.
+pub fn read_moved(bytes: &[u8], from: u64, to: u64, drop: u8) -> Unpacked
+    ensures { λ u. ⌜ UnpackPromise (now (bytes .entry)) to drop u ⌝ }
+{
+    next_code(moved_to(reader_at(bytes, from), to), drop)
+}
+
+// The code at a position, asked of a reader that stands there.
 pub fn read_at(bytes: &[u8], at: u64, drop: u8) -> Unpacked
     ensures { λ u. ⌜ UnpackPromise (now (bytes .entry)) at drop u ⌝ }
 {
-    next_code(reader_at(bytes, at), drop)
+    read_moved(bytes, at, at, drop)
 }

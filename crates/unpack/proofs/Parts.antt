@@ -3,273 +3,327 @@
 use mathlib.Core.Path.{_≡_, refl, sym, ap, ap₂, _∙_, subst}
 use mathlib.Core.Bool.{Bool, true, false}
 use mathlib.Core.List.{List, _∷_}
-use Prim.Native.Nat.{ℕ, zero, suc, _+_, _*_, _-_, _%_, _^_, _<_, _≤_}
+use Prim.Native.Nat.{ℕ, zero, suc, _+_, _*_, _-_, _^_, _<_, _≤_}
 use native.Mathlib.Numerals.{add-one}
 use native.Mathlib.Omega.{arith}
 use lib.ListN.{length, length-append, length-drop, take, drop, getD, drop-of-length-le}
 use lib.Seq.{drop-cons}
-use lib.Dec.{ltb}
-use borrow.Author.Tests.{lt-ltb, le-ltb, ne-eqb}
+use lib.Dec.{ltb, eqb}
+use lib.IntN.{ℤ}
+use borrow.Author.Tests.{lt-ltb, le-ltb, le-leb, ne-eqb}
 use Rattle.ground.specs.Choice.{pick}
-use Rattle.ground.specs.Paper.{Paper, accepted, refused}
-use Rattle.code.specs.Meaning.{Shape, small, mid, big, Parsed, found, ranOut, redundantZero, runTooLong, UnpackValues, bitsThatCount, fromBits, filled, signed}
-use Rattle.code.specs.Meaning.{value, field, bigField, parityThen, unlessZero, afterRun, afterSign, parse, parseAt, bits, answerOf, unpackMeans}
-use Rattle.code.specs.Meaning.{dropKnown, largest, longestRun}
-use Rattle.code.specs.Shapes.{Drop, none, three, Exact, parse-exact, bits-some}
+use Rattle.ground.specs.Paper.{Paper, accepted, refused, mapped}
+use Rattle.code.specs.Meaning.{led, Parsed, found, ranOut, redundantZero, runTooLong, ShapeValues, bitsThatCount, fromBits, filled, signed}
+use Rattle.code.specs.Meaning.{leftOut, width, onesOf}
+use Rattle.code.specs.Meaning.{field, smallFound, ledThen, parityThen, afterRun, afterSign, parse, bits, valuesOf, answerOf, positionMeans, shapeMeans}
+use Rattle.code.specs.Meaning.{numberRead, unpackMeans, dropKnown, greatestPlace, largest, longestRun}
+use Rattle.code.specs.Shapes.{Drop, none, three, below-led, width-is, Exact, parse-exact, bits-some}
 use Rattle.code.specs.BitLists.{allBits-drop}
 use Rattle.code.specs.Positions.{allBits-bitsThatCount}
-use Rattle.code.specs.Magnitudes.{magnitude-fits, drop-small}
-use Rattle.code.proofs.Numbers.{shift-is}
-use Rattle.unpack.specs.Steps.{restAnswer, normalAnswer, zeroAnswer, NormalPlace, BigPlace}
+use Rattle.code.specs.Magnitudes.{places, magnitude-fits}
+use Rattle.code.specs.Theorems.{read-fits}
+use Rattle.code.specs.Answers.{shapePaper}
+use Rattle.code.specs.Promise.{ShapePromise}
+use Rattle.code.specs.declared.ShapeAnswer.{ShapeAnswer}
+use Rattle.code.specs.declared.ShapeAnswer.the-variants as S
+use Rattle.unpack.specs.Steps.{restAnswer, zeroAnswer}
+
+-- ---- fields
 
 -- a field that bits ran out of
-field-out : (w : ℕ) (shape : ℕ → Shape) (l : List ℕ) → length l < w → field w shape l ≡ ranOut
-field-out w shape l h = rw (lt-ltb (length l) w h)
+field-out : (w : ℕ) (then : ℕ → List ℕ → Parsed) (l : List ℕ) → length l < w → field w then l ≡ ranOut
+field-out w then l h = rw (lt-ltb (length l) w h)
 
 -- a field that is there
-field-there : (w : ℕ) (shape : ℕ → Shape) (l : List ℕ) → w ≤ length l → field w shape l ≡ found (shape (fromBits (take w l))) (drop w l)
-field-there w shape l h = rw (le-ltb (length l) w h)
+field-there : (w : ℕ) (then : ℕ → List ℕ → Parsed) (l : List ℕ) → w ≤ length l → field w then l ≡ then (fromBits (take w l)) (drop w l)
+field-there w then l h = rw (le-ltb (length l) w h)
 
 -- the next position, from what is left
-next-is : (l : List ℕ) (at end w : ℕ) → end ≡ length l → at ≤ end → w ≤ end - at → end - length (drop w (drop at l)) ≡ at + w
+next-is : (l : List ℕ) (at end w : ℕ) → end ≡ length l → at ≤ end → w ≤ end - at → at + w ≡ end - length (drop w (drop at l))
 next-is l at end w e a h = omega (arith, length-drop w (drop at l), length-drop at l)
 
-module _ (l : List ℕ) (at end s lead w left : ℕ) (e : end ≡ length l) where
-  -- a field under a leading one that bits ran out of
-  pub normal-out : end - at < w → refused 9 ≡ normalAnswer end s lead w left (drop at l)
-  normal-out h = rw (lt-ltb (length (drop at l)) w (omega (arith, length-drop at l)))
+-- ---- under a leading one
 
-  -- a field under a leading one that is there
-  pub normal-there : (x f : ℕ) → at ≤ end → w ≤ end - at → x ≡ fromBits (take w (drop at l)) → f ≡ filled left x
-      → accepted (record { value = signed s (lead + f); next = at + w }) ≡ normalAnswer end s lead w left (drop at l)
-  normal-there x f a h p q =
-      rw (le-ltb (length (drop at l)) w (omega (arith, length-drop at l)))
-      (ap₂ (λ (m n : ℕ). accepted (record { value = signed s (lead + m); next = n }))
-      (q ∙ ap (filled left) p)
-      (sym (next-is l at end w e a h)))
+-- whatever the field holds, the magnitude is inside the rule
+pub led-fits : (d s k w x : ℕ) → Drop d → s < 2 → 4 ≤ k → k ≤ greatestPlace → w ≡ width d k → x < 2 ^ w → 2 ^ k + filled (k - w) x ≤ largest
+led-fits d s k w x dr hs four top e hx =
+    let left : leftOut d k ≡ k - w = omega (arith, e, below-led k dr four .all) in
+    subst (λ (n : ℕ). 2 ^ k + filled n x ≤ largest) left
+    (magnitude-fits greatestPlace places d (led s k x) dr (hs, four, top, subst (λ (n : ℕ). x < 2 ^ n) e hx))
 
--- a shape with a leading one answers as its field
-rest-is : (d end w s lead left : ℕ) (shape : ℕ → Shape) (l : List ℕ) → ((x : ℕ) → value d (shape x) ≡ signed s (lead + filled left x))
-    → normalAnswer end s lead w left l ≡ restAnswer d end (field w shape l)
-rest-is d end w s lead left shape l same = go (ltb (length l) w)
+module _ (l : List ℕ) (at end d s k w : ℕ) (end-is : end ≡ length l) (top : k ≤ greatestPlace) (width-is : w ≡ width d k) where
+  -- a place that is not above the greatest has its field
+  led-then : ledThen greatestPlace d s k (drop at l) ≡ field w (λ x. found (led s k x)) (drop at l)
+  led-then =
+      ap (λ (b : Bool). pick b (field (width d k) (λ x. found (led s k x)) (drop at l)) runTooLong) (le-leb k greatestPlace top)
+      ∙ ap (λ (n : ℕ). field n (λ x. found (led s k x)) (drop at l)) (sym width-is)
+
+  -- bits ran out in it
+  pub led-out : end - at < w → refused 9 ≡ restAnswer d end (ledThen greatestPlace d s k (drop at l))
+  led-out h =
+      sym (ap (restAnswer d end) (led-then ∙ field-out w (λ x. found (led s k x)) (drop at l) (omega (arith, length-drop at l))))
+
+  -- it is there
+  pub led-there : (left x lead fill error : ℕ) → left ≡ leftOut d k → at ≤ end → w ≤ end - at → x ≡ fromBits (take w (drop at l))
+      → lead ≡ 2 ^ k → fill ≡ filled left x → error ≡ 2 ^ (left - 1)
+      → accepted (record { sign = s; magnitude = lead + fill; error = error; next = at + w })
+      ≡ restAnswer d end (ledThen greatestPlace d s k (drop at l))
+  led-there left x lead fill error left-is a h x-is lead-is fill-is error-is =
+      let y : ℕ = fromBits (take w (drop at l)) in
+      let rest : List ℕ = drop w (drop at l) in
+      let magnitude-is : lead + fill ≡ 2 ^ k + filled (leftOut d k) y = ap₂ (λ (m n : ℕ). m + n) lead-is (fill-is ∙ ap₂ filled left-is x-is) in
+      ap₂ (λ (m n : ℕ). accepted (record { sign = s; magnitude = m; error = error; next = n })) magnitude-is (next-is l at end w end-is a h)
+      ∙ ap
+      (λ (n : ℕ). accepted (record { sign = s; magnitude = 2 ^ k + filled (leftOut d k) y; error = n; next = end - length rest }))
+      (error-is ∙ ap (λ (n : ℕ). 2 ^ (n - 1)) left-is)
+      ∙ sym (ap (restAnswer d end) (led-then ∙ field-there w (λ x. found (led s k x)) (drop at l) (omega (arith, length-drop at l))))
+
+-- ---- under 16
+
+module _ (l : List ℕ) (at end d s left : ℕ) (end-is : end ≡ length l) (left-is : left ≡ d) where
+  -- the width of the field
+  small-width : 4 - left ≡ 4 - d
+  small-width = ap (λ (n : ℕ). 4 - n) left-is
+
+  -- a small field that bits ran out of
+  pub small-out : end - at < 4 - left → refused 9 ≡ restAnswer d end (afterRun greatestPlace d s 0 (drop at l))
+  small-out h = sym (ap (restAnswer d end) (field-out (4 - d) (smallFound d s) (drop at l) (omega (arith, small-width, length-drop at l))))
+
+  module _ (x : ℕ) (dr : Drop d) (a : at ≤ end) (h : 4 - left ≤ end - at) (x-is : x ≡ fromBits (take (4 - left) (drop at l))) where
+    -- the bits after it
+    abbrev rest : List ℕ
+    rest = drop (4 - d) (drop at l)
+
+    -- a small field that is there
+    small-there : afterRun greatestPlace d s 0 (drop at l) ≡ smallFound d s x rest
+    small-there =
+        field-there (4 - d) (smallFound d s) (drop at l) (omega (arith, small-width, length-drop at l))
+        ∙ ap (λ (n : ℕ). smallFound d s n rest) (sym (x-is ∙ ap (λ (n : ℕ). fromBits (take n (drop at l))) small-width))
+
+    -- the position after it
+    small-next : at + (4 - left) ≡ end - length rest
+    small-next = ap (λ (n : ℕ). at + n) small-width ∙ next-is l at end (4 - d) end-is a (omega (arith, small-width))
+
+    -- a small field of zeros
+    pub small-zeros : x ≡ 0 → zeroAnswer d s (at + (4 - left)) ≡ restAnswer d end (afterRun greatestPlace d s 0 (drop at l))
+    small-zeros z =
+        ap (zeroAnswer d s) small-next
+        ∙ go d dr rest
+        ∙ sym (ap (restAnswer d end) (small-there ∙ ap (λ (n : ℕ). smallFound d s n rest) z))
+      where
+        go : (d : ℕ) → Drop d → (rest : List ℕ) → zeroAnswer d s (end - length rest) ≡ restAnswer d end (smallFound d s 0 rest)
+        go d none rest = refl
+        go d three rest = refl
+
+    -- a small field that is not zero
+    pub small-number : (fill error : ℕ) → (x ≡ 0 → ⊥) → fill ≡ filled left x → error ≡ pick (eqb d 0) 0 4
+        → accepted (record { sign = s; magnitude = fill; error = error; next = at + (4 - left) })
+        ≡ restAnswer d end (afterRun greatestPlace d s 0 (drop at l))
+    small-number fill error z fill-is error-is =
+        ap₂ (λ (m n : ℕ). accepted (record { sign = s; magnitude = m; error = error; next = n })) (fill-is ∙ ap (λ (n : ℕ). filled n x) left-is) small-next
+        ∙ ap (λ (n : ℕ). accepted (record { sign = s; magnitude = filled d x; error = n; next = end - length rest })) error-is
+        ∙ go d dr rest
+        ∙ sym (ap (restAnswer d end) small-there)
+      where
+        go : (d : ℕ) → Drop d → (rest : List ℕ)
+            → accepted (record { sign = s; magnitude = filled d x; error = pick (eqb d 0) 0 4; next = end - length rest })
+            ≡ restAnswer d end (smallFound d s x rest)
+        go d none rest = rw (ne-eqb x 0 z)
+        go d three rest = rw (ne-eqb x 0 z)
+
+-- what is filled into a small field is small
+pub small-fits : (d left x : ℕ) → Drop d → left ≡ d → x < 2 ^ (4 - left) → (left < 32) × (filled left x < 32)
+small-fits d left x dr e h = subst (λ (n : ℕ). x < 2 ^ (4 - n) → (n < 32) × (filled n x < 32)) (sym e) (go dr) h
   where
-    go : (t : Bool)
-        → pick t (refused 9) (accepted (record { value = signed s (lead + filled left (fromBits (take w l))); next = end - length (drop w l) }))
-        ≡ restAnswer d end (pick t ranOut (found (shape (fromBits (take w l))) (drop w l)))
-    go true = refl
-    go false = ap (λ (z : lib.IntN.ℤ). accepted (record { value = z; next = end - length (drop w l) })) (sym (same (fromBits (take w l))))
+    go : {d : ℕ} → Drop d → x < 2 ^ (4 - d) → (d < 32) × (filled d x < 32)
+    go none h = (omega arith, omega arith)
+    go three h = (omega arith, omega arith)
 
--- a mid shape answers as its field
-pub mid-is : (d end s : ℕ) (l : List ℕ) → normalAnswer end s 16 (3 - d) (1 + d) l ≡ restAnswer d end (afterRun d s 1 l)
-mid-is d end s l = rest-is d end (3 - d) s 16 (1 + d) (mid s) l (λ x. refl)
+-- a small field of zeros with drop 0
+pub no-zero : (d s next : ℕ) → d ≡ 0 → refused 10 ≡ zeroAnswer d s next
+no-zero d s next e = ap (λ (n : ℕ). zeroAnswer n s next) (sym e)
 
--- a big shape answers as its field
-pub big-is : (d end s ones p : ℕ) (l : List ℕ) → ones ≤ longestRun → p < 2
-    → normalAnswer end s (1 * 2 ^ (2 * ones + 1 + p) % 2 ^ 32) (ones + 1 - d) (ones + p + d) l ≡ restAnswer d end (bigField d s ones p l)
-big-is d end s ones p l h hp =
-    rw (shift-is (2 * ones + 1 + p) 32 (omega arith))
-    (rest-is d end (ones + 1 - d) s (2 ^ (2 * ones + 1 + p)) (ones + p + d) (big s ones p) l (λ x. refl))
+-- a small field of zeros with drop 3
+pub five : (d s next : ℕ) → (d ≡ 0 → ⊥) → accepted (record { sign = s; magnitude = 5; error = 4; next = next }) ≡ zeroAnswer d s next
+five zero s next h = absurd (h refl)
+five (suc d) s next h = refl
 
--- where a mid field is read
-pub mid-place : (bytes : List ℕ) (at end d s : ℕ) → end ≡ length (bitsThatCount bytes) → at ≤ end → Drop d → s < 2
-    → NormalPlace bytes at end s 16 (3 - d) (1 + d)
-mid-place bytes at end d s e a dr hs =
-    record {
-      end-is = e;
-      inside = a;
-      narrow = omega arith;
-      few = omega (arith, drop-small dr);
-      fits = λ x hx. magnitude-fits d (mid s x) dr (hs, hx);
-    }
+-- ---- after the run of ones
 
--- where a big field is read
-pub big-place : (bytes : List ℕ) (at end d s ones p : ℕ) → BigPlace bytes at end d s ones p
-    → NormalPlace bytes at end s (1 * 2 ^ (2 * ones + 1 + p) % 2 ^ 32) (ones + 1 - d) (ones + p + d)
-big-place bytes at end d s ones p b =
-    record {
-      end-is = b .end-is;
-      inside = b .inside;
-      narrow = omega arith;
-      few = omega (arith, drop-small (b .taken));
-      fits = λ x hx.
-          subst (λ (n : ℕ). n + filled (ones + p + d) x ≤ largest) (sym (shift-is (2 * ones + 1 + p) 32 (omega arith)))
-          (magnitude-fits d (big s ones p x) (b .taken) (b .sign, b .two, b .run, b .parity, hx));
-    }
+-- no ones: a small shape; one: a leading one at place 4
+pub run-is : (d end s ones n : ℕ) (l : List ℕ) → ones ≡ n
+    → restAnswer d end (afterRun greatestPlace d s n l) ≡ restAnswer d end (afterRun greatestPlace d s ones l)
+run-is d end s ones n l e = ap (λ (m : ℕ). restAnswer d end (afterRun greatestPlace d s m l)) (sym e)
 
--- a small field that bits ran out of
-pub small-out : (l : List ℕ) (at end d s : ℕ) → end ≡ length l → end - at < 4 - d
-    → refused 9 ≡ restAnswer d end (afterRun d s 0 (drop at l))
-small-out l at end d s e h =
-    sym (ap (λ (q : Parsed). restAnswer d end (unlessZero d q)) (field-out (4 - d) (small s) (drop at l) (omega (arith, length-drop at l))))
-
--- a small field that is there
-small-there : (l : List ℕ) (at end d s x : ℕ) → end ≡ length l → at ≤ end → 4 - d ≤ end - at → x ≡ fromBits (take (4 - d) (drop at l))
-    → restAnswer d end (afterRun d s 0 (drop at l)) ≡ restAnswer d end (unlessZero d (found (small s x) (drop (4 - d) (drop at l))))
-small-there l at end d s x e a h p =
-    ap (λ (q : Parsed). restAnswer d end (unlessZero d q))
-    (field-there (4 - d) (small s) (drop at l) (omega (arith, length-drop at l))
-    ∙ ap (λ (n : ℕ). found (small s n) (drop (4 - d) (drop at l))) (sym p))
-
--- a small field of zeros
-pub small-zeros : (l : List ℕ) (at end d s x : ℕ) → Drop d → end ≡ length l → at ≤ end → 4 - d ≤ end - at → x ≡ fromBits (take (4 - d) (drop at l)) → x ≡ 0
-    → zeroAnswer d s (at + (4 - d)) ≡ restAnswer d end (afterRun d s 0 (drop at l))
-small-zeros l at end d s x dr e a h p z =
-    go dr (sym (next-is l at end (4 - d) e a h))
-    ∙ sym (small-there l at end d s x e a h p ∙ ap (λ (n : ℕ). restAnswer d end (unlessZero d (found (small s n) (drop (4 - d) (drop at l))))) z)
-  where
-    go : {d : ℕ} → Drop d → at + (4 - d) ≡ end - length (drop (4 - d) (drop at l))
-        → zeroAnswer d s (at + (4 - d)) ≡ restAnswer d end (unlessZero d (found (small s 0) (drop (4 - d) (drop at l))))
-    go none q = refl
-    go three q = ap (λ (n : ℕ). accepted (record { value = signed s 5; next = n })) q
-
--- a small field that is not zero
-pub small-number : (l : List ℕ) (at end d s x f : ℕ) → Drop d → end ≡ length l → at ≤ end → 4 - d ≤ end - at → x ≡ fromBits (take (4 - d) (drop at l))
-    → (x ≡ 0 → ⊥) → f ≡ filled d x
-    → accepted (record { value = signed s f; next = at + (4 - d) }) ≡ restAnswer d end (afterRun d s 0 (drop at l))
-small-number l at end d s x f dr e a h p z q =
-    ap₂ (λ (m n : ℕ). accepted (record { value = signed s m; next = n })) q (sym (next-is l at end (4 - d) e a h))
-    ∙ go dr
-    ∙ sym (small-there l at end d s x e a h p)
-  where
-    go : {d : ℕ} → Drop d
-        → accepted (record { value = signed s (filled d x); next = end - length (drop (4 - d) (drop at l)) })
-        ≡ restAnswer d end (unlessZero d (found (small s x) (drop (4 - d) (drop at l))))
-    go none = rw (ne-eqb x 0 z)
-    go three = rw (ne-eqb x 0 z)
-
--- what is filled into a small field is inside the rule
-pub small-fits : (d x f : ℕ) → Drop d → x < 2 ^ (4 - d) → f ≡ filled d x → f < 32
-small-fits d x f none h q = omega arith
-small-fits d x f three h q = omega arith
+-- the width of the field after two ones or more: "the first j+1-drop bits after the leading one"
+pub run-wide : (d drop ones p : ℕ) → Drop d → drop ≡ d → 2 ≤ ones → p < 2 → ones + 1 - drop ≡ width d (2 * ones + 1 + p)
+run-wide d drop ones p dr e two bit =
+    let run : onesOf (2 * ones + 1 + p) ≡ ones = omega arith in
+    ap₂ (λ (n m : ℕ). n + 1 - m) (sym run) e ∙ sym (width-is d (2 * ones + 1 + p) dr (omega arith))
 
 -- after a run of two ones or more, no bit is left for the parity
 pub parity-out : (l : List ℕ) (at end d s ones : ℕ) → end ≡ length l → end ≤ at → (ones ≡ 0 → ⊥) → (ones ≡ 1 → ⊥)
-    → refused 9 ≡ restAnswer d end (afterRun d s ones (drop at l))
+    → refused 9 ≡ restAnswer d end (afterRun greatestPlace d s ones (drop at l))
 parity-out l at end d s zero e h a b = absurd (a refl)
 parity-out l at end d s (suc zero) e h a b = absurd (b refl)
 parity-out l at end d s (suc (suc ones)) e h a b = rw (drop-of-length-le l {i = at} (omega arith))
 
 -- after a run of two ones or more, the parity and its field
-pub parity-there : (l : List ℕ) (at end d s ones p : ℕ) → end ≡ length l → at < end → (ones ≡ 0 → ⊥) → (ones ≡ 1 → ⊥) → p ≡ getD l at 0
-    → restAnswer d end (bigField d s ones p (drop (at + 1) l)) ≡ restAnswer d end (afterRun d s ones (drop at l))
-parity-there l at end d s zero p e h a b q = absurd (a refl)
-parity-there l at end d s (suc zero) p e h a b q = absurd (b refl)
-parity-there l at end d s (suc (suc ones)) p e h a b q =
-    ap₂ (λ (k : List ℕ) (n : ℕ). restAnswer d end (bigField d s (suc (suc ones)) n k)) (ap (λ (n : ℕ). drop n l) (add-one at)) q
-    ∙ ap (λ (k : List ℕ). restAnswer d end (parityThen d s (suc (suc ones)) k)) (sym (drop-cons l at 0 (omega arith)))
+pub parity-there : (l : List ℕ) (at end d s ones p : ℕ) {r : Paper ShapeValues} → end ≡ length l → at < end → (ones ≡ 0 → ⊥) → (ones ≡ 1 → ⊥)
+    → p ≡ getD l at 0 → r ≡ restAnswer d end (ledThen greatestPlace d s (2 * ones + 1 + p) (drop (at + 1) l))
+    → r ≡ restAnswer d end (afterRun greatestPlace d s ones (drop at l))
+parity-there l at end d s zero p e h a b q r = absurd (a refl)
+parity-there l at end d s (suc zero) p e h a b q r = absurd (b refl)
+parity-there l at end d s (suc (suc ones)) p e h a b q r =
+    let j : ℕ = suc (suc ones) in
+    r
+    ∙ ap₂ (λ (k : List ℕ) (n : ℕ). restAnswer d end (ledThen greatestPlace d s (2 * j + 1 + n) k)) (ap (λ (n : ℕ). drop n l) (add-one at)) q
+    ∙ ap (λ (k : List ℕ). restAnswer d end (parityThen greatestPlace d s j k)) (sym (drop-cons l at 0 (omega arith)))
 
-module _ (l : List ℕ) (here end d s ones b : ℕ) (end-is : end ≡ length l) (inside : here < end) (bit : b ≡ getD l here 0) where
+-- ---- the run of ones
+
+-- a bit that is not 0
+one-is : (b : ℕ) → (b ≡ 0 → ⊥) → (n : ℕ) × (b ≡ suc n)
+one-is zero h = absurd (h refl)
+one-is (suc n) h = (n, refl)
+
+module _ (l : List ℕ) (here end b : ℕ) (end-is : end ≡ length l) (inside : here < end) (bit : b ≡ getD l here 0) where
   -- the bits from here are this bit and those from the next place
   from-here : drop here l ≡ b ∷ drop (here + 1) l
   from-here = drop-cons l here 0 (omega arith) ∙ ap₂ _∷_ (sym bit) (ap (λ (n : ℕ). drop n l) (sym (add-one here)))
 
-  -- a zero ends the run
-  pub run-ends : b ≡ 0 → afterSign d s ones (drop here l) ≡ afterRun d s ones (drop (here + 1) l)
-  unfolding afterSign
-  run-ends z = ap (afterSign d s ones) (from-here ∙ ap (λ (n : ℕ). n ∷ drop (here + 1) l) z)
+  -- a zero
+  zero-here : b ≡ 0 → drop here l ≡ 0 ∷ drop (here + 1) l
+  zero-here z = from-here ∙ ap (λ (n : ℕ). n ∷ drop (here + 1) l) z
 
-  -- a one goes on
-  one-is : (b ≡ 0 → ⊥) → (n : ℕ) × (b ≡ suc n)
-  one-is h = go b refl
-    where
-      go : (m : ℕ) → b ≡ m → (n : ℕ) × (b ≡ suc n)
-      go zero e = absurd (h e)
-      go (suc m) e = (m, e)
+  -- a one
+  one-here : (b ≡ 0 → ⊥) → (n : ℕ) × (drop here l ≡ suc n ∷ drop (here + 1) l)
+  one-here h = let o = one-is b h in (o .0, from-here ∙ ap (λ (n : ℕ). n ∷ drop (here + 1) l) (o .1))
 
-  -- a one goes on with the run, or is one too many
-  run-on : (b ≡ 0 → ⊥) → afterSign d s ones (drop here l) ≡ pick (ltb ones longestRun) (afterSign d s (suc ones) (drop (here + 1) l)) runTooLong
-  unfolding afterSign
-  run-on h =
-      let o = one-is h in
-      ap (afterSign d s ones) (from-here ∙ ap (λ (n : ℕ). n ∷ drop (here + 1) l) (o .1))
+  module _ (d s ones : ℕ) where
+    -- a zero ends the run
+    pub run-ends : b ≡ 0 → afterSign greatestPlace d s ones (drop here l) ≡ afterRun greatestPlace d s ones (drop (here + 1) l)
+    unfolding afterSign
+    run-ends z = ap (afterSign greatestPlace d s ones) (zero-here z)
 
-  pub run-goes-on : (b ≡ 0 → ⊥) → ones < longestRun → afterSign d s ones (drop here l) ≡ afterSign d s (ones + 1) (drop (here + 1) l)
-  run-goes-on h few =
-      run-on h
-      ∙ ap (λ (t : Bool). pick t (afterSign d s (suc ones) (drop (here + 1) l)) runTooLong) (lt-ltb ones longestRun few)
-      ∙ ap (λ (n : ℕ). afterSign d s n (drop (here + 1) l)) (sym (add-one ones))
+    -- a one goes on with the run, or is one too many
+    run-on : (b ≡ 0 → ⊥)
+        → afterSign greatestPlace d s ones (drop here l)
+        ≡ pick (ltb ones (longestRun greatestPlace)) (afterSign greatestPlace d s (suc ones) (drop (here + 1) l)) runTooLong
+    unfolding afterSign
+    run-on h = ap (afterSign greatestPlace d s ones) (one-here h .1)
 
-  pub run-too-long : (b ≡ 0 → ⊥) → longestRun ≤ ones → afterSign d s ones (drop here l) ≡ runTooLong
-  run-too-long h many =
-      run-on h
-      ∙ ap (λ (t : Bool). pick t (afterSign d s (suc ones) (drop (here + 1) l)) runTooLong) (le-ltb ones longestRun many)
+    -- a one that is not one too many goes on with it
+    pub run-goes-on : (b ≡ 0 → ⊥) → ones < longestRun greatestPlace
+        → afterSign greatestPlace d s ones (drop here l) ≡ afterSign greatestPlace d s (ones + 1) (drop (here + 1) l)
+    run-goes-on h few =
+        run-on h
+        ∙ ap (λ (t : Bool). pick t (afterSign greatestPlace d s (suc ones) (drop (here + 1) l)) runTooLong) (lt-ltb ones (longestRun greatestPlace) few)
+        ∙ ap (λ (n : ℕ). afterSign greatestPlace d s n (drop (here + 1) l)) (sym (add-one ones))
+
+    -- any other is one too many
+    pub run-too-long : (b ≡ 0 → ⊥) → longestRun greatestPlace ≤ ones → afterSign greatestPlace d s ones (drop here l) ≡ runTooLong
+    run-too-long h many =
+        run-on h
+        ∙ ap (λ (t : Bool). pick t (afterSign greatestPlace d s (suc ones) (drop (here + 1) l)) runTooLong) (le-ltb ones (longestRun greatestPlace) many)
 
 -- bits ran out in the run
-pub run-out : (l : List ℕ) (here end d s ones : ℕ) → end ≡ length l → end ≤ here → afterSign d s ones (drop here l) ≡ ranOut
+pub run-out : (l : List ℕ) (here end d s ones : ℕ) → end ≡ length l → end ≤ here → afterSign greatestPlace d s ones (drop here l) ≡ ranOut
 unfolding afterSign
 run-out l here end d s ones e h = rw (drop-of-length-le l {i = here} (omega arith))
 
--- no ones: a small shape
-pub small-run : (d end s ones : ℕ) (l : List ℕ) → ones ≡ 0 → restAnswer d end (afterRun d s 0 l) ≡ restAnswer d end (afterRun d s ones l)
-small-run d end s ones l e = ap (λ (n : ℕ). restAnswer d end (afterRun d s n l)) (sym e)
-
--- one: a mid shape
-pub mid-run : (d end s ones : ℕ) (l : List ℕ) → ones ≡ 1 → normalAnswer end s 16 (3 - d) (1 + d) l ≡ restAnswer d end (afterRun d s ones l)
-mid-run d end s ones l e = mid-is d end s l ∙ ap (λ (n : ℕ). restAnswer d end (afterRun d s n l)) (sym e)
-
 -- the answer to what the start means, by what it means here
-pub answer-by : (d end : ℕ) {p : Paper UnpackValues} {x y z : Parsed} → x ≡ y → y ≡ z → p ≡ restAnswer d end z → p ≡ restAnswer d end x
+pub answer-by : (d end : ℕ) {p : Paper ShapeValues} {x y z : Parsed} → x ≡ y → y ≡ z → p ≡ restAnswer d end z → p ≡ restAnswer d end x
 answer-by d end u v q = q ∙ ap (restAnswer d end) (sym (u ∙ v))
 
+-- ---- from the first bit on
+
 -- no bit at the position
-pub code-out : (l : List ℕ) (at end d : ℕ) → end ≡ length l → end ≤ at → refused 9 ≡ restAnswer d end (parse d (drop at l))
+pub code-out : (l : List ℕ) (at end d : ℕ) → end ≡ length l → end ≤ at → refused 9 ≡ restAnswer d end (parse greatestPlace d (drop at l))
 unfolding parse
 code-out l at end d e h = rw (drop-of-length-le l {i = at} (omega arith))
 
 module _ (l : List ℕ) (at end d b : ℕ) (end-is : end ≡ length l) (inside : at < end) (bit : b ≡ getD l at 0) where
-  -- a zero is nought
-  pub code-nought : b ≡ 0 → accepted (record { value = lib.IntN.pos 0; next = at + 1 }) ≡ restAnswer d end (parse d (drop at l))
-  unfolding parse
-  code-nought z =
-      let next : at + 1 ≡ end - length (drop (at + 1) l) = omega (arith, length-drop (at + 1) l) in
-      ap (λ (n : ℕ). accepted (record { value = lib.IntN.pos 0; next = n })) next
-      ∙ sym (ap (λ (k : List ℕ). restAnswer d end (parse d k))
-      (from-here l at end d 0 0 b end-is inside bit ∙ ap (λ (n : ℕ). n ∷ drop (at + 1) l) z))
+  -- what is answered for the bits from the position on
+  from-bits : {k : List ℕ} → drop at l ≡ k → restAnswer d end (parse greatestPlace d k) ≡ restAnswer d end (parse greatestPlace d (drop at l))
+  from-bits e = ap (λ (k : List ℕ). restAnswer d end (parse greatestPlace d k)) (sym e)
 
-  -- a one, and then a sign
-  after-one : (b ≡ 0 → ⊥) → (n : ℕ) × (drop at l ≡ suc n ∷ drop (at + 1) l)
-  after-one h =
-      let o = one-is l at end d 0 0 b end-is inside bit h in
-      (o .0, from-here l at end d 0 0 b end-is inside bit ∙ ap (λ (n : ℕ). n ∷ drop (at + 1) l) (o .1))
+  -- a zero is nought
+  pub code-nought : (error : ℕ) → b ≡ 0 → error ≡ pick (eqb d 0) 0 3
+      → accepted (record { sign = 0; magnitude = 0; error = error; next = at + 1 }) ≡ restAnswer d end (parse greatestPlace d (drop at l))
+  unfolding parse
+  code-nought error z error-is =
+      let next : at + 1 ≡ end - length (drop (at + 1) l) = omega (arith, length-drop (at + 1) l) in
+      ap₂ (λ (m n : ℕ). accepted (record { sign = 0; magnitude = 0; error = m; next = n })) error-is next
+      ∙ from-bits (zero-here l at end b end-is inside bit z)
 
   -- no bit for the sign
-  pub sign-out : (b ≡ 0 → ⊥) → end ≤ at + 1 → refused 9 ≡ restAnswer d end (parse d (drop at l))
+  pub sign-out : (b ≡ 0 → ⊥) → end ≤ at + 1 → refused 9 ≡ restAnswer d end (parse greatestPlace d (drop at l))
   unfolding parse
   sign-out h out =
-      let o = after-one h in
-      sym (ap (λ (k : List ℕ). restAnswer d end (parse d k)) (o .1 ∙ ap (λ (k : List ℕ). suc (o .0) ∷ k) (drop-of-length-le l {i = at + 1} (omega arith))))
+      let o = one-here l at end b end-is inside bit h in
+      from-bits (o .1 ∙ ap (λ (k : List ℕ). suc (o .0) ∷ k) (drop-of-length-le l {i = at + 1} (omega arith)))
 
   -- the sign, and what follows it
-  pub sign-there : (s : ℕ) {p : Paper UnpackValues} → (b ≡ 0 → ⊥) → at + 1 < end → s ≡ getD l (at + 1) 0
-      → p ≡ restAnswer d end (afterSign d s 0 (drop (at + 2) l)) → p ≡ restAnswer d end (parse d (drop at l))
+  pub sign-there : (s : ℕ) {p : Paper ShapeValues} → (b ≡ 0 → ⊥) → at + 1 < end → s ≡ getD l (at + 1) 0
+      → p ≡ restAnswer d end (afterSign greatestPlace d s 0 (drop (at + 2) l)) → p ≡ restAnswer d end (parse greatestPlace d (drop at l))
   unfolding parse
   sign-there s h more q r =
-      let o = after-one h in
+      let o = one-here l at end b end-is inside bit h in
       let two : suc (at + 1) ≡ at + 2 = omega arith in
-      r ∙ sym (ap (λ (k : List ℕ). restAnswer d end (parse d k))
-      (o .1 ∙ ap (λ (k : List ℕ). suc (o .0) ∷ k)
-      (drop-cons l (at + 1) 0 (omega arith) ∙ ap₂ _∷_ (sym q) (ap (λ (n : ℕ). drop n l) two))))
+      let rest : drop (at + 1) l ≡ s ∷ drop (at + 2) l
+      = drop-cons l (at + 1) 0 (omega arith) ∙ ap₂ _∷_ (sym q) (ap (λ (n : ℕ). drop n l) two) in
+      let first : drop at l ≡ suc (o .0) ∷ (s ∷ drop (at + 2) l) = o .1 ∙ ap (λ (k : List ℕ). suc (o .0) ∷ k) rest in
+      r ∙ from-bits first
+
+-- ---- the whole call
 
 -- the next position, told by what is left or by the code's length
-rest-answer : (d at end : ℕ) (l : List ℕ) (q : Parsed) → end ≡ length l → Exact d (drop at l) q → restAnswer d end q ≡ answerOf d at q
+rest-answer : (d at end : ℕ) (l : List ℕ) (q : Parsed) → end ≡ length l → Exact greatestPlace d (drop at l) q → restAnswer d end q ≡ answerOf d at q
 rest-answer d at end l (found shape rest) e x =
     let whole : length (drop at l) ≡ length (bits d shape) + length rest = ap length (x .0) ∙ length-append (bits d shape) rest in
     let next : end - length rest ≡ at + length (bits d shape) = omega (arith, length-drop at l, bits-some d shape) in
-    ap (λ (n : ℕ). accepted (record { value = value d shape; next = n })) next
+    ap (λ (n : ℕ). accepted (valuesOf d shape n)) next
 rest-answer d at end l ranOut e x = refl
 rest-answer d at end l redundantZero e x = refl
 rest-answer d at end l runTooLong e x = refl
 
--- what reading answers, where the drop is taken
-pub unpack-is : (bytes : List ℕ) (at d end w : ℕ) {p : Paper UnpackValues} → dropKnown d ≡ true → end ≡ length (bitsThatCount bytes) → w ≡ d
-    → p ≡ restAnswer w end (parse w (drop at (bitsThatCount bytes))) → p ≡ unpackMeans bytes at d
-unpack-is bytes at d end w {p} t e q r =
-    r
-    ∙ ap (λ (n : ℕ). restAnswer n end (parse n (drop at (bitsThatCount bytes)))) q
-    ∙ rest-answer d at end (bitsThatCount bytes) (parse d (drop at (bitsThatCount bytes))) e
-    (parse-exact d (drop at (bitsThatCount bytes)) (allBits-drop at (bitsThatCount bytes) (allBits-bitsThatCount bytes)))
-    ∙ ap (λ (b : Bool). pick b (answerOf d at (parseAt bytes at d)) (refused 8)) (sym t)
+module _ (bytes : List ℕ) (at d : ℕ) where
+  -- reading with a known drop
+  known : dropKnown d ≡ true → positionMeans bytes at d ≡ shapeMeans bytes at d
+  known t = ap (λ (b : Bool). pick b (positionMeans bytes at d) (refused 8)) (sym t)
 
--- and where it is not
-pub unpack-refuses : (bytes : List ℕ) (at d : ℕ) → dropKnown d ≡ false → refused 8 ≡ unpackMeans bytes at d
-unpack-refuses bytes at d t = ap (λ (b : Bool). pick b (answerOf d at (parseAt bytes at d)) (refused 8)) (sym t)
+  -- from a position past the end
+  pub past-end : (end : ℕ) → dropKnown d ≡ true → end ≡ length (bitsThatCount bytes) → end < at → refused 9 ≡ shapeMeans bytes at d
+  past-end end t e h =
+      let past : ltb (length (bitsThatCount bytes)) at ≡ true = lt-ltb (length (bitsThatCount bytes)) at (omega arith) in
+      ap (λ (b : Bool). pick b (refused 9) (answerOf d at (parse greatestPlace d (drop at (bitsThatCount bytes))))) (sym past) ∙ known t
+
+  -- from any other
+  pub shape-is : (end : ℕ) {p : Paper ShapeValues} → dropKnown d ≡ true → end ≡ length (bitsThatCount bytes) → at ≤ end
+      → p ≡ restAnswer d end (parse greatestPlace d (drop at (bitsThatCount bytes))) → p ≡ shapeMeans bytes at d
+  shape-is end t e h r =
+      let l : List ℕ = drop at (bitsThatCount bytes) in
+      let here : ltb (length (bitsThatCount bytes)) at ≡ false = le-ltb (length (bitsThatCount bytes)) at (omega arith) in
+      r
+      ∙ rest-answer d at end (bitsThatCount bytes) (parse greatestPlace d l) e
+      (parse-exact greatestPlace d l (allBits-drop at (bitsThatCount bytes) (allBits-bitsThatCount bytes)))
+      ∙ ap (λ (b : Bool). pick b (refused 9) (answerOf d at (parse greatestPlace d l))) (sym here)
+      ∙ known t
+
+  -- with any other drop
+  pub shape-refuses : dropKnown d ≡ false → refused 8 ≡ shapeMeans bytes at d
+  shape-refuses t = ap (λ (b : Bool). pick b (positionMeans bytes at d) (refused 8)) (sym t)
+
+  module _ {r : ShapeAnswer} (s m error next : ℕ) (p : ShapePromise bytes at d r) (e : r ≡ S.Shape s m error next) where
+    -- what was read, as the definitions have it
+    was-read : shapeMeans bytes at d ≡ accepted (record { sign = s; magnitude = m; error = error; next = next })
+    was-read = sym (p .answer) ∙ ap shapePaper e
+
+    -- its magnitude is inside the rule
+    pub read-small : m ≤ largest
+    read-small = read-fits bytes at d was-read .in-rule
+
+    -- and its number is the call's
+    pub number-is : (v : ℤ) → v ≡ signed s m → accepted (record { value = v; next = next }) ≡ unpackMeans bytes at d
+    number-is v q = ap (λ (z : ℤ). accepted (record { value = z; next = next })) q ∙ sym (ap (mapped numberRead) was-read)

@@ -1,18 +1,16 @@
--- Laws that the proofs of reading cite: a field bit by bit, what is filled in, and a field of zeros.
+-- Laws that the proofs of reading cite: a field bit by bit, and what is filled in.
 -- Assumes nothing.
-use mathlib.Core.Path.{_≡_, refl, sym, ap, ap₂, _∙_, subst}
+use mathlib.Core.Path.{_≡_, sym, ap, ap₂, _∙_, subst}
 use mathlib.Core.List.{List}
-use Prim.Native.Nat.{ℕ, zero, suc, _+_, _*_, _-_, _%_, _^_, _<_, _≤_}
+use Prim.Native.Nat.{ℕ, _+_, _*_, _-_, _%_, _^_, _<_, _≤_}
 use native.Mathlib.Nat.{mod-eq-of-lt}
 use native.Mathlib.Numerals.{add-one}
 use native.Mathlib.Omega.{arith}
-use Rattle.ground.specs.Paper.{accepted}
 use lib.ListN.{length, length-drop, take, drop, getD}
 use lib.Seq.{getD-drop, take-suc, length-take-le}
 use lib.Pow.{pow-mono}
-use Rattle.code.specs.Meaning.{bitsThatCount, fromBits, filled, signed}
-use Rattle.code.proofs.Numbers.{shift-is}
-use Rattle.unpack.specs.Steps.{zeroAnswer}
+use Rattle.code.specs.Meaning.{bitsThatCount, fromBits, filled}
+use Rattle.code.specs.Numbers.{shift-is}
 use Rattle.code.specs.BitLists.{allBits, allBits-take, allBits-drop, fromBits-lt}
 use Rattle.code.specs.Positions.{fromBits-snoc, allBits-bitsThatCount}
 
@@ -41,11 +39,6 @@ pub fill-shifts : (left x : ℕ) → 0 < left → left < 32 → filled left x < 
 fill-shifts left x a b h =
     let p : x * 2 ^ left < 2 ^ 32 = omega arith in
     ap₂ (λ (m n : ℕ). m + (n - 1)) (mod-eq-of-lt p) (shift-is (left - 1) 32 (omega arith))
-
--- a small field of zeros with drop 3
-pub five : (d s next : ℕ) → (d ≡ 0 → ⊥) → accepted (record { value = signed s 5; next = next }) ≡ zeroAnswer d s next
-five zero s next h = absurd (h refl)
-five (suc d) s next h = refl
 
 -- nothing left out: the field itself
 pub fill-none : (left x : ℕ) → left ≡ 0 → x ≡ filled left x

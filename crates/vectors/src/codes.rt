@@ -1,5 +1,4 @@
 // Packed codes, asked of a reader.
-ghost use Rattle.code.specs.Promise.{UnpackPromise};
 use crate::say;
 use code::Unpacked;
 
@@ -11,21 +10,14 @@ pub fn read(bytes: &[u8], at: u64, drop: u8) {
 // A run of codes from a position on, up to the first that is refused: a reader that stood at a code is moved to the next.
 pub fn run(bytes: &[u8], at: u64, drop: u8) {
     let mut from = at;
-    let mut to = told(moved(bytes, at, at, drop), at);
+    let mut to = told(reader::read_at(bytes, at, drop), at);
     let mut turns = u64::MAX;
     while turns > 0 && from < to {
-        let next = told(moved(bytes, from, to, drop), to);
+        let next = told(reader::read_moved(bytes, from, to, drop), to);
         from = to;
         to = next;
         turns -= 1;
     }
-}
-
-// The code at a position, asked of a reader that stood at another.
-fn moved(bytes: &[u8], from: u64, to: u64, drop: u8) -> Unpacked
-    ensures { λ u. ⌜ UnpackPromise (now (bytes .entry)) to drop u ⌝ }
-{
-    reader::next_code(reader::moved_to(reader::reader_at(bytes, from), to), drop)
 }
 
 // The line of a code: 0, the number and the next position, which it answers; or the refusal, and where it was asked for.
@@ -44,9 +36,6 @@ fn next_of(answer: Unpacked, at: u64) -> u64 {
             say::more(next);
             next
         }
-        Unpacked::OutsideRule => at,
-        Unpacked::RanOut => at,
-        Unpacked::RedundantZero => at,
-        Unpacked::RunTooLong => at,
+        Unpacked::Refused(_) => at,
     }
 }

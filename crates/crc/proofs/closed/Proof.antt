@@ -11,8 +11,7 @@ returns c =
     let first = c .before .before .before .through in
     let second = c .before .before .through2 in
     let third = c .before .through3 in
-    closes (w .first) (w .second) (w .third) (w .fourth) (first .result) (second .result) (third .result) (c .through4 .result)
-    (first .ensures) (second .ensures) (third .ensures) (c .through4 .ensures)
+    closes (w .first) (w .second) (w .third) (w .fourth) (first .ensures) (second .ensures) (third .ensures) (c .through4 .ensures)
 
 pub closed-spec : {M : Type 1} → statement M
 closed-spec = tie.close (tie.spec (λ c κs. search needs) (λ c κs. search needs) (λ c κs. search needs) (λ c κs. search needs) returns)

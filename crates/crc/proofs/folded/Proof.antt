@@ -11,7 +11,7 @@ returns c =
     let w = a .fold in
     let top = c .before .before .before .before .top in
     let below = c .before .before .below-top in
-    folds (w .first) (w .second) (w .third) (w .fourth) (a .word) (top .result) (below .result) (search needs) (search needs) (search needs)
+    folds (w .first) (w .second) (w .third) (w .fourth) (a .word) (search needs) (search needs) (search needs)
     (search needs) (search needs) (top .ensures) (below .ensures)
 
 pub folded-spec : {M : Type 1} → statement M

@@ -8,7 +8,7 @@ use Rattle.crc.proofs.last.Tie as tie
 returns : tie.Need-returns
 returns c =
     let a = c .before .before .before .before .args in
-    run-last (a .register) _ (a .bytes .now) (a .at) (search needs) (search needs) (c .stepped .ensures)
+    run-last (a .register) (a .bytes .now) (a .at) (search needs) (search needs) (c .stepped .ensures)
 
 returns-2 : tie.Need-returns-2
 returns-2 c = let a = c .before .before .args in run-done (a .register) (a .bytes .now) (a .at) (search needs)

@@ -6,6 +6,7 @@ use borrow.Author.Needs.{needs}
 use lib.ListN.{length, drop}
 use Rattle.crc.specs.Meaning.{run}
 use Rattle.crc.specs.Folding.{registerOf}
+use Rattle.crc.proofs.Folds.{afterFour-lt}
 use Rattle.crc.proofs.Reading.{goes-on}
 use Rattle.crc.proofs.long.Statement.{statement}
 use Rattle.crc.proofs.long.Tie as tie
@@ -23,12 +24,9 @@ loop-holds c = (search needs, c .opened .ensures)
 loop-again : tie.Need-loop-again Inv-loop μ-loop
 loop-again c =
     let at = c .before .before .before in
-    let l = at .before .before .before .args .bytes .now in
-    let w = at .loop .fold in
     let next = c .before .word in (
       search needs,
-      goes-on l (at .loop .i) (next .result) _ (w .first) (w .second) (w .third) (w .fourth) (run 0xffff l) (next .ensures) (c .folded .ensures)
-          (at .loop .inv .1),
+      goes-on (registerOf (at .loop .fold)) (next .ensures) (afterFour-lt _ _ _ _) (c .folded .ensures) (at .loop .inv .1),
     )
 
 returns : tie.Need-returns Inv-loop μ-loop

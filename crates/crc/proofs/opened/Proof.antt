@@ -7,13 +7,11 @@ use Rattle.crc.proofs.opened.Tie as tie
 
 returns : tie.Need-returns
 returns c =
-    let a = c .before .before .before .before .before .before .args in
     let first = c .before .before .before .before .word in
     let started = c .before .before .before .started in
     let second = c .before .before .word2 in
     let third = c .before .word3 in
-    opens (a .bytes .now) (first .result) (second .result) (third .result) (c .word4 .result) (started .result) (first .ensures)
-    (started .ensures) (second .ensures) (third .ensures) (c .word4 .ensures)
+    opens (started .result) (first .ensures) (started .ensures) (second .ensures) (third .ensures) (c .word4 .ensures)
 
 pub opened-spec : {M : Type 1} → statement M
 opened-spec =

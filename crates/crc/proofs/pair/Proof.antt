@@ -7,10 +7,8 @@ use Rattle.crc.proofs.pair.Tie as tie
 
 returns : tie.Need-returns
 returns c =
-    let a = c .before .before .before .before .before .args in
     let first = c .before .before .wide in
-    pair-goes (a .bytes .now) (a .at) (first .result) (c .wide2 .result) (search needs) (first .ensures .0) (c .wide2 .ensures .0)
-    (first .ensures .1) (c .wide2 .ensures .1)
+    pair-goes (search needs) (first .ensures .0) (c .wide2 .ensures .0) (first .ensures .1) (c .wide2 .ensures .1)
 
 pub pair-spec : {M : Type 1} → statement M
 pair-spec =

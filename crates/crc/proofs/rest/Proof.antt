@@ -22,11 +22,10 @@ joined-requires c κs = c .pair .ensures .small
 loop-again : tie.Need-loop-again Inv-loop μ-loop
 loop-again c =
     let at = c .before .before .before in
-    let l = at .before .before .args .bytes .now in
     let two = c .before .pair in (
       search needs,
       subst (λ (x : ℕ). x < 2 ^ 16) (sym (c .joined .ensures)) (sixteen-lt _),
-      two-on l (at .loop .i) (two .result) (at .loop .kept) _ _ (two .ensures) (at .loop .inv .1) (c .joined .ensures) (at .loop .inv .2),
+      two-on (at .loop .kept) (two .ensures) (at .loop .inv .1) (c .joined .ensures) (at .loop .inv .2),
     )
 
 returns : tie.Need-returns Inv-loop μ-loop

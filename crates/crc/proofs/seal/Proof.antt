@@ -1,10 +1,9 @@
 -- `crc::seal` meets its contract: the checksum of the bytes before it is put where it has room.
 -- Assumes nothing.
-use mathlib.Core.Path.{sym, _∙_}
 use native.Mathlib.Omega.{arith}
 use borrow.Author.Needs.{needs}
 use lib.ListN.{length-take}
-use Rattle.ground.proofs.Lying.{inside}
+use Rattle.ground.specs.Laws.{inside}
 use Rattle.crc.proofs.Covering.{put-behind, no-room}
 use Rattle.crc.proofs.seal.Statement.{statement}
 use Rattle.crc.proofs.seal.Tie as tie
@@ -21,10 +20,10 @@ returns c =
     let put = c .before .before in
     let sum = put .before .before in
     let room = sum .before .before in
-    put-behind (sym (room .before .lies-in .ensures .answer) ∙ room .if1 .taken) (sum .checksum .ensures .answer) (put .put-word .ensures)
+    put-behind (room .before .lies-in .ensures) (room .if1 .taken) (sum .checksum .ensures .answer) (put .put-word .ensures)
 
 returns-2 : tie.Need-returns-2
-returns-2 c = no-room (sym (c .before .lies-in .ensures .answer) ∙ c .if1 .left)
+returns-2 c = no-room (c .before .lies-in .ensures) (c .if1 .left)
 
 pub seal-spec : {M : Type 1} → statement M
 seal-spec =

@@ -12,8 +12,7 @@ returns c =
     let second = c .before .before .carry2 in
     let third = c .before .carry3 in
     c .spread .ensures
-    ∙ sixteen-turns (c .before .before .before .before .args .register) (first .result) (second .result) (third .result) (search needs)
-    (first .ensures) (second .ensures) (third .ensures)
+    ∙ sixteen-turns (c .before .before .before .before .args .register) (search needs) (first .ensures) (second .ensures) (third .ensures)
 
 pub shifted-spec : {M : Type 1} → statement M
 shifted-spec = tie.close (tie.spec (λ c κs. search needs) (λ c κs. search needs) (λ c κs. search needs) (λ c κs. search needs) returns)

@@ -11,8 +11,7 @@ returns c =
     let high = c .before .before .before .high in
     let first = c .before .before .shifted in
     let low = c .before .low in
-    goes-through (a .register) (a .word) (high .result) (low .result) (first .result) (c .shifted2 .result) (high .ensures) (first .ensures)
-    (low .ensures) (c .shifted2 .ensures)
+    goes-through (a .register) (a .word) (high .ensures) (first .ensures) (low .ensures) (c .shifted2 .ensures)
 
 pub through-spec : {M : Type 1} → statement M
 through-spec = tie.close (tie.spec (λ c κs. search needs) (λ c κs. search needs) (λ c κs. search needs) (λ c κs. search needs) returns)

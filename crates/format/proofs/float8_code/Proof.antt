@@ -3,7 +3,7 @@
 use native.Mathlib.Omega.{arith}
 use lib.Dec.{lit<, lit≤}
 use Prim.Native.Nat.{_+_, _*_, _^_}
-use Rattle.format.specs.Widths.{float8-fits}
+use Rattle.format.specs.Widths.{float-fits}
 use Rattle.format.specs.Meaning.{floatValue, Takes}
 use Rattle.ground.specs.Paper.{accepted}
 use Rattle.format.proofs.Steps.{took}
@@ -12,18 +12,18 @@ use Rattle.format.proofs.float8_code.Statement.{statement}
 use Rattle.format.proofs.float8_code.Tie as tie
 
 -- the sum is the code that the count takes
-taken : (c : tie.After-halved) → Takes (floatValue 3) (2 ^ 34) (c .before .before .before .args .count)
+takes : (c : tie.After-halved) → Takes (floatValue 3) (2 ^ 34) (c .before .before .before .args .count)
     (accepted (c .before .halvings .result * 2 ^ 3 + c .halved .result))
-taken c = took 3 (2 ^ 34) (lit< tt) (lit≤ tt) (c .before .before .if1 .left) (c .before .halvings .ensures .0) (c .halved .ensures)
+takes c = took 3 (2 ^ 34) (lit< tt) (lit≤ tt) (c .before .before .if1 .left) (c .before .halvings .ensures .0) (c .halved .ensures)
 
 add-code : tie.Need-add-code
-add-code c = omega (arith, float8-fits (taken c))
+add-code c = omega (arith, float-fits 3 8 (takes c))
 
 cast-t7 : tie.Need-cast-t7
-cast-t7 c = record { fits = float8-fits (taken c) }
+cast-t7 c = record { fits = float-fits 3 8 (takes c) }
 
 returns-2 : tie.Need-returns-2
-returns-2 c = record { answer = taken c }
+returns-2 c = record { answer = takes c }
 
 pub float8-code-spec : {M : Type 1} → statement M
 float8-code-spec =

@@ -3,7 +3,8 @@
 use native.Mathlib.Omega.{arith}
 use borrow.Author.Needs.{needs}
 use lib.ListN.{length-set}
-use Rattle.ground.proofs.Lying.{inside, put-here, put-away}
+use Rattle.ground.specs.Laws.{inside}
+use Rattle.ground.proofs.Lying.{put-here, put-away}
 use Rattle.ground.proofs.put_word.Statement.{statement}
 use Rattle.ground.proofs.put_word.Tie as tie
 

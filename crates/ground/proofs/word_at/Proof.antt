@@ -2,7 +2,8 @@
 -- Assumes nothing.
 use native.Mathlib.Omega.{arith}
 use borrow.Author.Needs.{needs}
-use Rattle.ground.proofs.Lying.{inside, word-here, word-away}
+use Rattle.ground.specs.Laws.{inside}
+use Rattle.ground.proofs.Lying.{word-here, word-away}
 use Rattle.ground.proofs.word_at.Statement.{statement}
 use Rattle.ground.proofs.word_at.Tie as tie
 

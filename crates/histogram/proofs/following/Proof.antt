@@ -1,6 +1,5 @@
 -- `histogram::following` meets its contract: the number after the last, 0 after 65535, none after a number that no ask bears.
 -- Assumes nothing.
-use mathlib.Core.Path.{_≡_, refl}
 use borrow.Author.Needs.{needs}
 use borrow.Author.Tests.{le-leb, lt-leb, eq-eqb, ne-eqb}
 use Rattle.histogram.proofs.following.Statement.{statement}

@@ -1,7 +1,6 @@
 -- `histogram::next` meets its contract: 1 where nothing is kept, else the number after the kept one.
 -- Assumes nothing.
 use mathlib.Core.Path.{_∙_}
-use native.Mathlib.Omega.{arith}
 use borrow.Author.Needs.{needs}
 use Rattle.histogram.proofs.Calls.{next-short, next-first, next-last}
 use Rattle.histogram.proofs.next.Statement.{statement}

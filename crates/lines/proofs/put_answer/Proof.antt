@@ -4,9 +4,6 @@ use Rattle.lines.proofs.Answering.{answer-short, answer-put}
 use borrow.Author.Needs.{needs}
 use Rattle.lines.proofs.put_answer.Statement.{statement}
 use Rattle.lines.proofs.put_answer.Tie as tie
-use Rattle.lines.proofs.put_answer.Reads as reads
-use Rattle.lines.proofs.put_answer.Lts as lts
-use Rattle.lines.proofs.answer.put_line.Reads as put-line-reads
 
 returns : tie.Need-returns
 returns c = answer-short (c .if1 .taken)

@@ -4,9 +4,6 @@ use Rattle.lines.proofs.Answering.{header-short, header-put}
 use borrow.Author.Needs.{needs}
 use Rattle.lines.proofs.put_header.Statement.{statement}
 use Rattle.lines.proofs.put_header.Tie as tie
-use Rattle.lines.proofs.put_header.Reads as reads
-use Rattle.lines.proofs.put_header.Lts as lts
-use Rattle.lines.proofs.text.put_text.Reads as put-text-reads
 
 returns : tie.Need-returns
 returns c = header-short (c .if1 .taken)

@@ -21,35 +21,49 @@ may-go-requires : tie.Need-may-go-requires Inv-loop μ-loop
 may-go-requires c κs = omega (arith, c .before .before .loop .inv .fits, c .before .before .loop .inv .long)
 
 put-said-requires : tie.Need-put-said-requires Inv-loop μ-loop
-put-said-requires c κs = (
-  omega (
-    arith,
-    c .before .before .before .before .before .before .loop .inv .fits,
-    c .before .before .before .before .before .before .loop .inv .long,
-  ),
-  λ e. omega (
-    arith,
-    newline-room (getD (c .before .before .before .before .before .before .before .before .before .args .input .now)
-        (c .before .before .before .before .before .before .loop .used) 0) (c .before .before .before .before .before .before .loop .put) _
-        (c .before .before .before .may-go .ensures) (c .before .before .if1 .taken) e,
-  ),
-)
+put-said-requires c κs =
+    let at-if = c .before .before in
+    let at-may-go = at-if .before in
+    let at-loop = at-may-go .before .before .before in
+    let start = at-loop .before .before .before in (
+      omega (
+        arith,
+        at-loop .loop .inv .fits,
+        at-loop .loop .inv .long,
+      ),
+      λ e. omega (
+        arith,
+        newline-room (getD (start .args .input .now) (at-loop .loop .used) 0) (at-loop .loop .put) _
+            (at-may-go .may-go .ensures) (at-if .if1 .taken) e,
+      ),
+    )
 
 loop-less : tie.Need-loop-less Inv-loop μ-loop
-loop-less c = omega (arith, c .before .before .before .before .before .before .before .before .before .loop-test .taken)
+loop-less c =
+    let at-test = c .before .before .before .before .before .before .before .before .before in
+    omega (arith, at-test .loop-test .taken)
 
 loop-again : tie.Need-loop-again Inv-loop μ-loop
-loop-again c = running-more (c .before .before .before .before .before .before .before .before .before .before .loop .inv)
-    (c .before .before .before .before .before .before .before .before .before .loop-test .taken)
-    (c .before .before .before .before .before .before .before .may-go .ensures) (c .before .before .before .before .before .before .if1 .taken)
-    (c .before .before .before .put-said .ensures) (c .next-line .ensures)
+loop-again c =
+    let at-put-said = c .before .before .before in
+    let at-if = at-put-said .before .before .before in
+    let at-may-go = at-if .before in
+    let at-test = at-may-go .before .before in
+    let at-loop = at-test .before in
+    running-more (at-loop .loop .inv) (at-test .loop-test .taken) (at-may-go .may-go .ensures) (at-if .if1 .taken)
+    (at-put-said .put-said .ensures) (c .next-line .ensures)
 
 same-length : tie.Need-same-length Inv-loop μ-loop
-same-length c = c .before .before .before .before .loop .inv .long
+same-length c =
+    let at-loop = c .before .before .before .before in
+    at-loop .loop .inv .long
 
 returns : tie.Need-returns Inv-loop μ-loop
-returns c = running-waits (c .before .before .before .before .loop .inv) (c .before .before .before .loop-test .taken) (c .before .may-go .ensures)
-    (c .if1 .left)
+returns c =
+    let at-may-go = c .before in
+    let at-test = at-may-go .before .before in
+    let at-loop = at-test .before in
+    running-waits (at-loop .loop .inv) (at-test .loop-test .taken) (at-may-go .may-go .ensures) (c .if1 .left)
 
 same-length-2 : tie.Need-same-length-2 Inv-loop μ-loop
 same-length-2 c = c .before .loop .inv .long

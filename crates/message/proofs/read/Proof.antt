@@ -1,23 +1,20 @@
 -- `message::read` meets its contract: the tests one after the other.
 -- Assumes nothing.
 use borrow.Author.Needs.{needs}
-use Rattle.ground.specs.Questions.{answered-no, answered-yes}
-use Rattle.message.specs.Laws.{read-short}
-use Rattle.message.proofs.Reading.{wrong-first, wrong-second, cut-short, wrong-checksum, a-message}
+use Rattle.message.proofs.Reading.{under-four, wrong-first, wrong-second, cut-short, wrong-checksum, a-message}
 use Rattle.message.proofs.read.Statement.{statement}
 use Rattle.message.proofs.read.Tie as tie
 
 returns : tie.Need-returns
-returns c = record { answer = read-short (c .before .before .args .bytes .now) (search needs) }
+returns c = under-four (search needs)
 
 returns-2 : tie.Need-returns-2
-returns-2 c = record { answer = wrong-first (c .before .before .before .before .args .bytes .now) (search needs) (c .if2 .taken) }
+returns-2 c = wrong-first (search needs) (c .if2 .taken)
 
 returns-3 : tie.Need-returns-3
 returns-3 c =
     let first = c .before .before in
-    let l = first .before .before .before .before .args .bytes .now in
-    record { answer = wrong-second l (search needs) (first .if2 .left) (c .if3 .taken) }
+    wrong-second (search needs) (first .if2 .left) (c .if3 .taken)
 
 returns-4 : tie.Need-returns-4
 returns-4 c =
@@ -25,10 +22,7 @@ returns-4 c =
     let word = size .before in
     let second = word .before in
     let first = second .before .before in
-    let l = first .before .before .before .before .args .bytes .now in
-    record {
-      answer = cut-short l (search needs) (first .if2 .left) (second .if3 .left) (word .word-at .ensures) (size .data-size .ensures .0) (search needs);
-    }
+    cut-short (search needs) (first .if2 .left) (second .if3 .left) (word .word-at .ensures) (size .data-size .ensures .0) (search needs)
 
 returns-5 : tie.Need-returns-5
 returns-5 c =
@@ -37,11 +31,8 @@ returns-5 c =
     let word = size .before in
     let second = word .before in
     let first = second .before .before in
-    let l = first .before .before .before .before .args .bytes .now in
-    record {
-      answer = wrong-checksum l (search needs) (first .if2 .left) (second .if3 .left) (word .word-at .ensures) (size .data-size .ensures .0) (search needs)
-          (answered-no (seal .sealed .ensures .answer) (c .if5 .taken));
-    }
+    wrong-checksum (search needs) (first .if2 .left) (second .if3 .left) (word .word-at .ensures) (size .data-size .ensures .0) (search needs)
+    (seal .sealed .ensures) (c .if5 .taken)
 
 returns-6 : tie.Need-returns-6
 returns-6 c =
@@ -51,11 +42,8 @@ returns-6 c =
     let word = size .before in
     let second = word .before in
     let first = second .before .before in
-    let l = first .before .before .before .before .args .bytes .now in
-    record {
-      answer = a-message l (search needs) (first .if2 .left) (second .if3 .left) (word .word-at .ensures) (size .data-size .ensures .0) (search needs)
-          (answered-yes (seal .sealed .ensures .answer) (whole .if5 .left)) (c .number-at .ensures);
-    }
+    a-message (search needs) (first .if2 .left) (second .if3 .left) (word .word-at .ensures) (size .data-size .ensures .0) (search needs)
+    (seal .sealed .ensures) (whole .if5 .left) (c .number-at .ensures)
 
 pub read-spec : {M : Type 1} → statement M
 read-spec =

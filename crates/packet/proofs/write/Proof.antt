@@ -6,25 +6,17 @@ use Rattle.packet.proofs.write.Statement.{statement}
 use Rattle.packet.proofs.write.Tie as tie
 
 returns : tie.Need-returns
-returns c =
-    let a = c .before .before .before .args in
-    record { outcome = too-much (a .buffer .now) (a .apid) (a .payload .now) (search needs) }
+returns c = too-much (search needs)
 
 returns-2 : tie.Need-returns-2
-returns-2 c =
-    let a = c .before .before .before .before .args in
-    record { outcome = too-short (a .buffer .now) (a .apid) (a .payload .now) (search needs) (search needs) }
+returns-2 c = too-short (search needs) (search needs)
 
 returns-3 : tie.Need-returns-3
 returns-3 c =
     let seal = c .before .before in
     let copy = seal .before .before .before .before in
     let head = copy .before .before .before .before in
-    let a = head .before .before .before .before .before .before .args in
-    record {
-      outcome = done (a .buffer .now) (a .apid) (a .payload .now) (search needs) (search needs) (head .put-header .ensures) (copy .copied .ensures)
-          (seal .seal .ensures);
-    }
+    done (search needs) (search needs) (head .put-header .ensures) (copy .copied .ensures) (seal .seal .ensures)
 
 pub write-spec : {M : Type 1} → statement M
 write-spec =

@@ -4,8 +4,6 @@ use Rattle.lines.proofs.Answering.{go-newline, go-other}
 use borrow.Author.Needs.{needs}
 use Rattle.lines.proofs.answer.may_go.Statement.{statement}
 use Rattle.lines.proofs.answer.may_go.Tie as tie
-use Rattle.lines.proofs.answer.may_go.Reads as reads
-use Rattle.lines.proofs.answer.may_go.Lts as lts
 
 returns : tie.Need-returns
 returns c = go-newline (c .before .args .byte) (c .before .args .put) (c .before .args .size) (c .if1 .taken) (c .before .pre)

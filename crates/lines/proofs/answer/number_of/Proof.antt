@@ -1,12 +1,10 @@
 -- `lines::number_of` meets its contract.
 -- Assumes nothing.
 use Rattle.lines.proofs.Answering.{known-minus, known-plus}
-use Rattle.code.proofs.Numbers.{minus-fits}
+use Rattle.code.specs.Numbers.{minus-fits}
 use borrow.Author.Needs.{needs}
 use Rattle.lines.proofs.answer.number_of.Statement.{statement}
 use Rattle.lines.proofs.answer.number_of.Tie as tie
-use Rattle.lines.proofs.answer.number_of.Reads as reads
-use Rattle.lines.proofs.answer.number_of.Lts as lts
 
 sub-result : tie.Need-sub-result
 sub-result c = minus-fits _ (c .before .before .pre)

@@ -24,26 +24,29 @@ handed-requires c κs = run-put (c .before .before .before .run .ensures)
 add-at : tie.Need-add-at Inv-loop μ-loop
 add-at c =
     let ran = c .before .before .before .before .before .before in
-    let turn = c .before .before .before .before .before .before .before .before .before in
-    let loop = c .before .before .before .before .before .before .before .before .before .before in
-    let piece = c .before .before .before .before .before .before .before .before .before .before .before .before .before .args .piece .now in
+    let turn = ran .before .before .before in
+    let loop = turn .before in
+    let start = loop .before .before .before in
+    let piece = start .args .piece .now in
     let inside = stays piece (loop .loop .at) (ran .run .ensures) (turn .loop-test .taken) in
     search needs
 
 loop-less : tie.Need-loop-less Inv-loop μ-loop
 loop-less c =
     let ran = c .before .before .before .before .before .before in
-    let turn = c .before .before .before .before .before .before .before .before .before in
-    let loop = c .before .before .before .before .before .before .before .before .before .before in
-    let piece = c .before .before .before .before .before .before .before .before .before .before .before .before .before .args .piece .now in
+    let turn = ran .before .before .before in
+    let loop = turn .before in
+    let start = loop .before .before .before in
+    let piece = start .args .piece .now in
     gets-on piece (loop .loop .at) (ran .run .ensures) (turn .loop-test .taken) (search needs)
 
 loop-again : tie.Need-loop-again Inv-loop μ-loop
 loop-again c =
     let ran = c .before .before .before .before .before .before in
-    let turn = c .before .before .before .before .before .before .before .before .before in
-    let loop = c .before .before .before .before .before .before .before .before .before .before in
-    let piece = c .before .before .before .before .before .before .before .before .before .before .before .before .before .args .piece .now in (
+    let turn = ran .before .before .before in
+    let loop = turn .before in
+    let start = loop .before .before .before in
+    let piece = start .args .piece .now in (
       stays piece (loop .loop .at) (ran .run .ensures) (turn .loop-test .taken),
       search needs,
       comes-to piece (loop .loop .at) (ran .run .ensures) (turn .loop-test .taken) (loop .loop .inv .2),
@@ -53,7 +56,10 @@ same-length : tie.Need-same-length Inv-loop μ-loop
 same-length c = c .before .loop .inv .1
 
 returns : tie.Need-returns Inv-loop μ-loop
-returns c = all-taken (c .before .before .before .before .args .piece .now) (c .before .loop .at) (c .before .loop .inv .2) (c .loop-test .left)
+returns c =
+    let at-loop = c .before in
+    let start = at-loop .before .before .before in
+    all-taken (start .args .piece .now) (at-loop .loop .at) (at-loop .loop .inv .2) (c .loop-test .left)
 
 pub print-runs-spec : {M : Type 1} → statement M
 print-runs-spec =

@@ -16,35 +16,31 @@ abbrev μ-loop : tie.MeasureT-loop
 μ-loop room₀ at bytes count i₀ room i = count - i
 
 loop-holds : tie.Need-loop-holds Inv-loop μ-loop
-loop-holds c = copied-none (c .before .before .args .room .now) (c .before .before .args .at)
-    (bitText (c .before .before .args .bytes .now) (c .before .before .args .count))
+loop-holds c = let a = c .before .before .args in copied-none (a .room .now) (a .at) (bitText (a .bytes .now) (a .count))
 
 loop-again : tie.Need-loop-again Inv-loop μ-loop
 loop-again c =
-    let n = bit-length (c .before .before .before .before .before .before .args .bytes .now)
-    (c .before .before .before .before .before .before .args .count) (c .before .before .before .before .before .before .pre .2)
-    (c .before .before .before .before .before .before .pre .1) in
-    copied-more (48 + c .bit-of .result) (omega (arith, n)) (c .before .before .before .loop .inv) (omega (arith, n))
-    (ap (λ (x : ℕ). 48 + x) (c .bit-of .ensures .0) ∙ bit-at (c .before .before .before .before .before .before .args .bytes .now)
-    (c .before .before .before .before .before .before .args .count) (c .before .before .before .before .before .before .pre .2)
-    (c .before .before .before .before .before .before .pre .1) (c .before .before .before .loop .i) (search needs))
+    let at-loop = c .before .before .before in
+    let start = at-loop .before .before .before in
+    let a = start .args in
+    let p = start .pre in
+    let n = bit-length (a .bytes .now) (a .count) (p .2) (p .1) in
+    copied-more (48 + c .bit-of .result) (omega (arith, n)) (at-loop .loop .inv) (omega (arith, n))
+    (ap (λ (x : ℕ). 48 + x) (c .bit-of .ensures .answer) ∙ bit-at (a .bytes .now) (a .count) (p .2) (p .1) (at-loop .loop .i) (search needs))
 
 add-result : tie.Need-add-result Inv-loop μ-loop
-add-result c = omega (
-  arith,
-  bit-length (c .before .before .before .before .args .bytes .now) (c .before .before .before .before .args .count)
-      (c .before .before .before .before .pre .2) (c .before .before .before .before .pre .1),
-)
+add-result c =
+    let start = c .before .before .before .before in
+    omega (arith, bit-length (start .args .bytes .now) (start .args .count) (start .pre .2) (start .pre .1))
 
 same-length : tie.Need-same-length Inv-loop μ-loop
 same-length c = c .before .loop .inv .long
 
 returns : tie.Need-returns Inv-loop μ-loop
-returns c = put-all (c .before .loop .inv) (omega (
-  arith,
-  bit-length (c .before .before .before .before .args .bytes .now)
-      (c .before .before .before .before .args .count) (c .before .before .before .before .pre .2) (c .before .before .before .before .pre .1),
-))
+returns c =
+    let at-loop = c .before in
+    let start = at-loop .before .before .before in
+    put-all (at-loop .loop .inv) (omega (arith, bit-length (start .args .bytes .now) (start .args .count) (start .pre .2) (start .pre .1)))
 
 pub put-bits-spec : {M : Type 1} → statement M
 put-bits-spec =

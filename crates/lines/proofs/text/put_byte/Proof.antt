@@ -5,8 +5,6 @@ use Rattle.lines.proofs.Texts.{put-one}
 use borrow.Author.Needs.{needs}
 use Rattle.lines.proofs.text.put_byte.Statement.{statement}
 use Rattle.lines.proofs.text.put_byte.Tie as tie
-use Rattle.lines.proofs.text.put_byte.Reads as reads
-use Rattle.lines.proofs.text.put_byte.Lts as lts
 
 returns : tie.Need-returns
 returns c = (put-one (c .args .room .now) (c .args .at) (c .args .byte) (c .pre), refl)

@@ -12,16 +12,11 @@ use Rattle.lines.proofs.Texts.{number-put}
 use borrow.Author.Needs.{needs}
 use Rattle.lines.proofs.text.put_number.Statement.{statement}
 use Rattle.lines.proofs.text.put_number.Tie as tie
-use Rattle.lines.proofs.text.put_number.Reads as reads
-use Rattle.lines.proofs.text.put_number.Lts as lts
-use Rattle.lines.proofs.text.put_byte.Reads as put-byte-reads
-use Rattle.lines.proofs.text.put_spaced.Reads as put-spaced-reads
-use Rattle.lines.proofs.text.put_value.Reads as put-value-reads
 
 put-spaced-requires : tie.Need-put-spaced-requires
 put-spaced-requires c κs =
     let value = c .before .before .before in
-    let start = c .before .before .before .before .before .before in (
+    let start = value .before .before .before in (
       omega (arith, value .put-value .ensures .1, value .put-value .ensures .0 .long, start .pre .0),
       subst (λ (n : ℕ). n ≤ largest) (ap natAbs (sym (toZ-ofZ w32 (start .args .v) (start .fits .v)))) (start .pre .1),
       search (none, three),
@@ -30,8 +25,8 @@ put-spaced-requires c κs =
 put-spaced-requires-2 : tie.Need-put-spaced-requires-2
 put-spaced-requires-2 c κs =
     let first = c .before .before .before in
-    let value = c .before .before .before .before .before .before .before in
-    let start = c .before .before .before .before .before .before .before .before .before .before in (
+    let value = first .before .before .before .before in
+    let start = value .before .before .before in (
       omega (
         arith,
         value .put-value .ensures .1,
@@ -47,9 +42,9 @@ put-spaced-requires-2 c κs =
 put-byte-requires : tie.Need-put-byte-requires
 put-byte-requires c κs =
     let second = c .before .before .before in
-    let first = c .before .before .before .before .before .before .before in
-    let value = c .before .before .before .before .before .before .before .before .before .before .before in
-    let start = c .before .before .before .before .before .before .before .before .before .before .before .before .before .before in
+    let first = second .before .before .before .before in
+    let value = first .before .before .before .before in
+    let start = value .before .before .before in
     omega (
       arith,
       value .put-value .ensures .1,
@@ -63,12 +58,13 @@ put-byte-requires c κs =
 
 returns : tie.Need-returns
 returns c =
-    let second = c .before .before .before .before .before .before in
-    let first = c .before .before .before .before .before .before .before .before .before .before in
-    let value = c .before .before .before .before .before .before .before .before .before .before .before .before .before .before in
-    let start = c .before .before .before .before .before .before .before .before .before .before .before .before .before .before .before .before .before in
+    let at-put-byte = c .before .before in
+    let second = at-put-byte .before .before .before .before in
+    let first = second .before .before .before .before in
+    let value = first .before .before .before .before in
+    let start = value .before .before .before in
     number-put _ (start .args .v) (toZ-ofZ w32 (start .args .v) (start .fits .v)) (omega (arith, start .pre .0)) (value .put-value .ensures .0)
-    (first .put-spaced .ensures .0) (second .put-spaced2 .ensures .0) (c .before .before .put-byte .ensures .0)
+    (first .put-spaced .ensures .0) (second .put-spaced2 .ensures .0) (at-put-byte .put-byte .ensures .0)
 
 pub put-number-spec : {M : Type 1} → statement M
 put-number-spec = tie.close (tie.spec (λ c κs. search needs) put-spaced-requires put-spaced-requires-2 put-byte-requires (λ c. search needs) returns)

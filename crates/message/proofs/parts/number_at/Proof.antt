@@ -23,7 +23,7 @@ add-value : tie.Need-add-value Inv-loop μ-loop
 add-value c = omega (arith, room (c .before .before .before .loop .inv .small) (omega arith))
 
 loop-again : tie.Need-loop-again Inv-loop μ-loop
-loop-again c = summed-more (c .long .result) (search needs) (c .before .before .before .loop .inv) (search needs) (c .long .ensures .0) (c .long .ensures .1)
+loop-again c = summed-more (c .wide .result) (search needs) (c .before .before .before .loop .inv) (search needs) (c .wide .ensures .0) (c .wide .ensures .1)
 
 returns : tie.Need-returns Inv-loop μ-loop
 returns c = summed-all (c .before .loop .inv) (search needs)

@@ -1,7 +1,7 @@
 -- `pack::write::all_ones` meets its contract: the shift loses nothing.
 -- Assumes nothing.
 use Rattle.pack.proofs.Writing.{ones-are}
-use Rattle.code.proofs.Numbers.{shift-positive}
+use Rattle.code.specs.Numbers.{shift-positive}
 use native.Mathlib.Omega.{arith}
 use borrow.Author.Needs.{needs}
 use Rattle.pack.proofs.write.all_ones.Statement.{statement}

@@ -33,31 +33,41 @@ sub-left c = c .eight-of .ensures .1
 
 put-byte-requires : tie.Need-put-byte-requires Inv-loop μ-loop
 put-byte-requires c κs =
-    let l = c .before .before .before .loop in
-    let s = c .before .before .before .before .before in
-    omega (arith, s .pre .0, l .inv .0, l .inv .2, l .inv .3, length-bitsThatCount (s .args .buffer .now), c .before .before .loop-test .taken)
+    let at-test = c .before .before in
+    let at-loop = at-test .before in
+    let s = at-loop .before .before in
+    let l = at-loop .loop in
+    omega (arith, s .pre .0, l .inv .0, l .inv .2, l .inv .3, length-bitsThatCount (s .args .buffer .now), at-test .loop-test .taken)
 
 add-i : tie.Need-add-i Inv-loop μ-loop
 add-i c =
-    let l = c .before .before .before .before .before .before .loop in
-    let s = c .before .before .before .before .before .before .before .before in
+    let at-loop = c .before .before .before .before .before .before in
+    let s = at-loop .before .before in
+    let l = at-loop .loop in
     omega (arith, s .pre .0, l .inv .0, l .inv .2, length-bitsThatCount (s .args .buffer .now))
 
 loop-less : tie.Need-loop-less Inv-loop μ-loop
 loop-less c =
-    let l = c .before .before .before .before .before .before .loop in
-    let t = c .before .before .before .before .before .loop-test .taken in
-    let e = c .before .before .before .before .eight-of in
+    let at-eight-of = c .before .before .before .before in
+    let at-test = at-eight-of .before in
+    let at-loop = at-test .before in
+    let l = at-loop .loop in
+    let t = at-test .loop-test .taken in
+    let e = at-eight-of .eight-of in
     omega (arith, t, e .ensures .2 (omega (arith, l .inv .1, t)))
 
 loop-again : tie.Need-loop-again Inv-loop μ-loop
 loop-again c =
-    let s = c .before .before .before .before .before .before .before .before in
-    let l = c .before .before .before .before .before .before .loop in
-    let t = c .before .before .before .before .before .loop-test .taken in
-    let n = c .before .before .before .before .eight-of .result in
-    let e = c .before .before .before .before .eight-of .ensures .2 (omega (arith, l .inv .1, t)) in
-    let p = c .before .before .put-byte in
+    let at-put-byte = c .before .before in
+    let at-eight-of = at-put-byte .before .before in
+    let at-test = at-eight-of .before in
+    let at-loop = at-test .before in
+    let s = at-loop .before .before in
+    let l = at-loop .loop in
+    let t = at-test .loop-test .taken in
+    let n = at-eight-of .eight-of .result in
+    let e = at-eight-of .eight-of .ensures .2 (omega (arith, l .inv .1, t)) in
+    let p = at-put-byte .put-byte in
     let a = s .args in (
       omega arith,
       omega (arith, l .inv .1, t, e),

@@ -12,8 +12,9 @@ slice-read-byte-wide c = omega (arith, position-inside (c .before .before .args 
 
 filled-requires : tie.Need-filled-requires
 filled-requires c κs =
-    let s = c .before .before .before .before in
-    (c .before .byte-wide .ensures .1, c .room-at .ensures .2, room-holds _ _ _ (c .room-at .ensures .0) (s .pre .1))
+    let at-byte-wide = c .before in
+    let s = at-byte-wide .before .before .before in
+    (at-byte-wide .byte-wide .ensures .1, c .room-at .ensures .2, room-holds _ _ _ (c .room-at .ensures .0) (s .pre .1))
 
 slice-write-buffer : tie.Need-slice-write-buffer
 slice-write-buffer c =
@@ -22,10 +23,12 @@ slice-write-buffer c =
 
 returns : tie.Need-returns
 returns c =
-    let s = c .before .before .before .before .before in
+    let at-room-at = c .before in
+    let at-byte-wide = at-room-at .before in
+    let s = at-byte-wide .before .before .before in
     let a = s .args in
-    part-stored (a .buffer .now) (a .at) (c .before .before .byte-wide .result) (c .before .room-at .result) (c .filled .result) (a .number)
-    (position-inside _ _ (s .pre .0)) (c .before .before .byte-wide .ensures .0) (c .before .room-at .ensures .0) (c .filled .ensures .0)
+    part-stored (a .buffer .now) (a .at) (at-byte-wide .byte-wide .result) (at-room-at .room-at .result) (c .filled .result) (a .number)
+    (position-inside _ _ (s .pre .0)) (at-byte-wide .byte-wide .ensures .0) (at-room-at .room-at .ensures .0) (c .filled .ensures .0)
 
 pub put-part-spec : {M : Type 1} → statement M
 put-part-spec =

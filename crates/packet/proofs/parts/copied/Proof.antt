@@ -26,8 +26,8 @@ same-length c = c .before .loop .inv .long
 
 returns : tie.Need-returns Inv-loop μ-loop
 returns c =
-    copied-all (c .before .loop .inv) (search needs)
-    ∙ put-whole (c .before .before .args .part .now) (c .before .before .args .payload .now) (c .before .before .pre)
+    let start = c .before .before in
+    copied-all (c .before .loop .inv) (search needs) ∙ put-whole (start .args .part .now) (start .args .payload .now) (start .pre)
 
 pub copied-spec : {M : Type 1} → statement M
 copied-spec =

@@ -10,16 +10,18 @@ use Rattle.packet.proofs.parts.data_length.Statement.{statement}
 use Rattle.packet.proofs.parts.data_length.Tie as tie
 
 add-word-at : tie.Need-add-word-at
-add-word-at c = omega (arith, standing (c .before .args .capture .now) (c .before .args .place) (c .before .pre))
+add-word-at c = let start = c .before in omega (arith, standing (start .args .capture .now) (start .args .place) (start .pre))
 
 sub-result : tie.Need-sub-result
 sub-result c =
-    let s = standing (c .before .before .args .capture .now) (c .before .before .args .place) (c .before .before .pre) in
+    let start = c .before .before in
+    let s = standing (start .args .capture .now) (start .args .place) (start .pre) in
     omega (arith, s, word-there (c .word-at .ensures) (omega (arith, s)))
 
 returns : tie.Need-returns
 returns c =
-    let s = standing (c .before .before .args .capture .now) (c .before .before .args .place) (c .before .before .pre) in
+    let start = c .before .before in
+    let s = standing (start .args .capture .now) (start .args .place) (start .pre) in
     let is = word-there (c .word-at .ensures) (omega (arith, s)) in
     (ap (λ (w : ℕ). w - 4) is, omega (arith, s, is))
 

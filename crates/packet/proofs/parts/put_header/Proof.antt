@@ -8,12 +8,13 @@ use Rattle.packet.proofs.parts.put_header.Tie as tie
 
 returns : tie.Need-returns
 returns c =
-    let a = c .before .before .before .before .before .before .before .before .before .before .before .before .before .before .before .before .before .args in
-    head-put (a .buffer .now) (a .word) (a .apid) (put-there (c .before .before .before .before .before .before .before .before .before .before .before
-    .before .before .before .put-word .ensures) (search needs))
-    (put-there (c .before .before .before .before .before .before .before .before .before .before .put-word2 .ensures) (search needs))
-    (put-there (c .before .before .before .before .before .before .put-word3 .ensures) (search needs))
-    (put-there (c .before .before .put-word4 .ensures) (search needs))
+    let apid = c .before .before in
+    let word = apid .before .before .before .before in
+    let second = word .before .before .before .before in
+    let first = second .before .before .before .before in
+    let a = first .before .before .before .args in
+    head-put (a .buffer .now) (a .word) (a .apid) (put-there (first .put-word .ensures) (search needs)) (put-there (second .put-word2 .ensures) (search needs))
+    (put-there (word .put-word3 .ensures) (search needs)) (put-there (apid .put-word4 .ensures) (search needs))
 
 pub put-header-spec : {M : Type 1} → statement M
 put-header-spec =

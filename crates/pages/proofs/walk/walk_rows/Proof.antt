@@ -1,7 +1,7 @@
 -- `pages::walk::walk_rows` meets its contract. The loop's invariant: memory and sum are those of the walk over the rows passed.
 -- Assumes nothing.
 use mathlib.Core.Path.{_≡_, _∙_, refl}
-use Prim.Native.Nat.{_+_, _*_, _≤_, _-_}
+use Prim.Native.Nat.{_+_, _*_, _≤_, _<_, _-_}
 use native.Mathlib.Omega.{arith}
 use lib.ListN.{length}
 use borrow.Author.Needs.{needs}
@@ -21,13 +21,17 @@ abbrev μ-loop : tie.MeasureT-loop
 loop-holds : tie.Need-loop-holds Inv-loop μ-loop
 loop-holds c = (omega arith, refl, refl, omega arith)
 
+-- the call, at the loop's head
+abbrev called : tie.At-loop Inv-loop μ-loop → tie.Start Inv-loop μ-loop
+called c = c .before .before .before .before
+
 walk-row-requires : tie.Need-walk-row-requires Inv-loop μ-loop
 walk-row-requires c κs =
     let at-start = c .before in
     let at-loop = at-start .before .before in
-    let called = at-loop .before .before .before .before in (
-      rw (at-start .row-start .ensures .0, at-loop .loop .inv .1)
-          (row-within (called .args .window) (at-loop .loop .row) _ (at-start .before .loop-test .taken) (called .pre)),
+    let call = called at-loop in
+    let inside : at-loop .loop .row < call .args .window .ysize + 1 = omega arith in (
+      rw (at-start .row-start .ensures .0, at-loop .loop .inv .1) (row-within (call .args .window) (at-loop .loop .row) _ inside (call .pre)),
       omega arith,
       omega arith,
     )
@@ -37,7 +41,7 @@ loop-again c =
     let walked = c .before .before .walk-row in
     let at-start = c .before .before .before .before in
     let loop = at-start .before .before .loop in
-    let a = at-start .before .before .before .before .before .before .args in (
+    let a = called (at-start .before .before) .args in (
       omega arith,
       walked .kept .0 ∙ loop .inv .1,
       walk-step (a .page) (a .clear) (walkAt (a .memory .now) 0) (a .window) (loop .memory) (loop .sum) (loop .row) _ _ _ (loop .inv .2)
@@ -50,7 +54,7 @@ same-length c = c .before .loop .inv .1
 
 returns : tie.Need-returns Inv-loop μ-loop
 returns c =
-    let e : c .before .loop .row ≡ c .before .before .before .before .before .args .window .ysize + 1 = omega arith in
+    let e : c .before .loop .row ≡ called (c .before) .args .window .ysize + 1 = omega arith in
     rw (← e) (c .before .loop .inv .2)
 
 pub walk-rows-spec : {M : Type 1} → statement M

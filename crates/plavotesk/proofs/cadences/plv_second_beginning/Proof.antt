@@ -6,10 +6,11 @@ use Rattle.plavotesk.proofs.cadences.plv_second_beginning.Statement.{st
 use Rattle.plavotesk.proofs.cadences.plv_second_beginning.Tie as tie
 
 returns : tie.Need-returns
-returns c = refuses-so _ levelPaper (c .before .before .before .beginning .ensures .answer) (c .before .enum-told .given .1) refl (c .level-number .ensures)
+returns c =
+    refuses-so _ levelPaper (c .before .before .before .second-beginning .ensures .answer) (c .before .enum-told .given .1) refl (c .level-number .ensures)
 
 returns-2 : tie.Need-returns-2
-returns-2 c = accepts-so _ levelPaper (c .before .before .before .beginning .ensures .answer) (c .before .answer .given .1) refl
+returns-2 c = accepts-so _ levelPaper (c .before .before .before .second-beginning .ensures .answer) (c .before .answer .given .1) refl
 
 pub plv-second-beginning-spec : {M : Type 1} → statement M
 plv-second-beginning-spec =

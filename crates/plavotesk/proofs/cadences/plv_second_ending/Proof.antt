@@ -6,10 +6,10 @@ use Rattle.plavotesk.proofs.cadences.plv_second_ending.Statement.{state
 use Rattle.plavotesk.proofs.cadences.plv_second_ending.Tie as tie
 
 returns : tie.Need-returns
-returns c = refuses-so _ levelPaper (c .before .before .before .ending .ensures .answer) (c .before .enum-told .given .1) refl (c .level-number .ensures)
+returns c = refuses-so _ levelPaper (c .before .before .before .second-ending .ensures .answer) (c .before .enum-told .given .1) refl (c .level-number .ensures)
 
 returns-2 : tie.Need-returns-2
-returns-2 c = accepts-so _ levelPaper (c .before .before .before .ending .ensures .answer) (c .before .answer .given .1) refl
+returns-2 c = accepts-so _ levelPaper (c .before .before .before .second-ending .ensures .answer) (c .before .answer .given .1) refl
 
 pub plv-second-ending-spec : {M : Type 1} → statement M
 plv-second-ending-spec = tie.close (tie.spec (λ c κs. search needs) (λ c. search needs) (λ c. search needs) (λ c κs. search needs) returns returns-2)

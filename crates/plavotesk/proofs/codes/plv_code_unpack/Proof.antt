@@ -3,17 +3,14 @@
 use mir.Syntax.{w32}
 use mir.Val.{SFits}
 use mir.ValLaws.{toZ-ofZ}
-use Rattle.code.proofs.Unpacked.{the-type}
-use Rattle.code.specs.Answers.{unpackedPaper, unpackedBack, unpacked-home}
-use Rattle.plavotesk.proofs.Telling.{needs, refl, [], _∷_, tagOf, accepts, refuses}
+use Rattle.code.specs.Answers.{unpackedPaper}
+use Rattle.plavotesk.proofs.Telling.{needs, refl, accepts, refuses-as}
 use Rattle.plavotesk.proofs.codes.plv_code_unpack.Statement.{statement}
 use Rattle.plavotesk.proofs.codes.plv_code_unpack.Tie as tie
 
 returns : tie.Need-returns
 returns c =
-    let below = c .before .before .unpack in
-    refuses _ _ unpackedPaper unpackedBack unpacked-home (tagOf the-type) (1 ∷ 2 ∷ 3 ∷ 4 ∷ []) (λ _. tt) (below .result)
-    (c .before .match .keys2) (below .ensures .answer) (c .unpacked-number .ensures)
+    refuses-as _ _ unpackedPaper (c .before .before .before .unpack .ensures .answer) (c .before .enum-told .given .1) refl (c .unpacked-number .ensures)
 
 returns-2 : tie.Need-returns-2
 returns-2 c =
@@ -22,4 +19,4 @@ returns-2 c =
     (accepts _ _ unpackedPaper (c .before .before .before .unpack .ensures .answer) (c .before .answer .given .1) refl)
 
 pub plv-code-unpack-spec : {M : Type 1} → statement M
-plv-code-unpack-spec = tie.close (tie.spec (λ c κs. search needs) (λ c. search needs) (λ c κs. search needs) returns returns-2)
+plv-code-unpack-spec = tie.close (tie.spec (λ c κs. search needs) (λ c. search needs) (λ c. search needs) (λ c κs. search needs) returns returns-2)

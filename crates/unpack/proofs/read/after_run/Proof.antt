@@ -3,40 +3,63 @@
 use mathlib.Core.Path.{_∙_}
 use native.Mathlib.Omega.{arith}
 use borrow.Author.Needs.{needs}
-use Rattle.code.specs.Magnitudes.{drop-small}
-use Rattle.unpack.proofs.Parts.{mid-place, mid-run, small-run, parity-out, parity-there}
+use Rattle.code.specs.Shapes.{drop-small}
+use Rattle.unpack.proofs.Parts.{run-is, run-wide, parity-out, parity-there}
 use Rattle.unpack.proofs.read.after_run.Statement.{statement}
 use Rattle.unpack.proofs.read.after_run.Tie as tie
 
 returns : tie.Need-returns
-returns c = c .small .ensures ∙ small-run _ _ _ _ _ (c .before .if1 .taken)
+returns c = c .small .ensures ∙ run-is _ _ _ _ 0 _ (c .before .if1 .taken)
 
-sub-normal : tie.Need-sub-normal
-sub-normal c = drop-small (c .before .before .before .pre .1)
-
-add-normal : tie.Need-add-normal
-add-normal c = omega (arith, drop-small (c .before .before .before .pre .1))
-
-normal-requires : tie.Need-normal-requires
-normal-requires c κs =
-    let p = c .before .before .before .pre in
-    mid-place _ _ _ _ _ (p .0) (p .3) (p .1) (p .2)
+sub-led : tie.Need-sub-led
+sub-led c =
+    let start = c .before .before .before .before in
+    omega (arith, drop-small (start .pre .0 .drop-is), c .wide .ensures)
 
 returns-2 : tie.Need-returns-2
-returns-2 c = c .normal .ensures ∙ mid-run _ _ _ _ _ (c .before .if2 .taken)
+returns-2 c = c .led .ensures ∙ run-is _ _ _ _ 1 _ (c .before .before .if2 .taken)
 
 returns-3 : tie.Need-returns-3
 returns-3 c =
-    parity-out _ _ _ _ _ _ (c .before .before .before .before .pre .0) (c .if3 .taken) (c .before .before .if1 .left) (c .before .if2 .left)
+    let at-two = c .before in
+    let at-one = at-two .before in
+    parity-out _ _ _ _ _ _ (at-one .before .before .pre .0 .end-is) (c .if3 .taken) (at-one .if1 .left) (at-two .if2 .left)
+
+sub-width : tie.Need-sub-width
+sub-width c =
+    let at-two = c .before .before .before in
+    let at-one = at-two .before in
+    omega (arith, drop-small (at-one .before .before .pre .0 .drop-is), c .wide2 .ensures, at-one .if1 .left, at-two .if2 .left)
+
+led-requires-2 : tie.Need-led-requires-2
+led-requires-2 c κs =
+    let at-bit = c .before in
+    let at-three = at-bit .before in
+    let at-two = at-three .before in
+    let at-one = at-two .before in
+    let p = at-one .before .before .pre in
+    record {
+      end-is = p .0 .end-is;
+      inside = omega (arith, at-three .if3 .left);
+      drop-is = p .0 .drop-is;
+      sign = p .1;
+      four = omega (arith, at-one .if1 .left, at-two .if2 .left);
+      top = omega (arith, p .2, at-bit .bit-wide .ensures .1);
+      width-is = run-wide _ _ _ _ (p .0 .drop-is) (c .wide2 .ensures) (omega (arith, at-one .if1 .left, at-two .if2 .left)) (at-bit .bit-wide .ensures .1);
+    }
 
 returns-4 : tie.Need-returns-4
 returns-4 c =
-    c .big .ensures
-    ∙ parity-there _ _ _ _ _ _ _ (c .before .before .before .before .before .before .pre .0) (c .before .before .if3 .left)
-    (c .before .before .before .before .if1 .left) (c .before .before .before .if2 .left) (c .before .bit-wide .ensures .0)
+    let at-bit = c .before .before in
+    let at-three = at-bit .before in
+    let at-two = at-three .before in
+    let at-one = at-two .before in
+    parity-there _ _ _ _ _ _ _ (at-one .before .before .pre .0 .end-is) (at-three .if3 .left) (at-one .if1 .left) (at-two .if2 .left)
+    (at-bit .bit-wide .ensures .0) (c .led2 .ensures)
 
 pub after-run-spec : {M : Type 1} → statement M
 after-run-spec =
     tie.close
-    (tie.spec (λ c κs. search needs) returns sub-normal add-normal normal-requires returns-2 returns-3 (λ c κs. search needs) (λ c. search needs)
-    (λ c κs. search needs) returns-4)
+    (tie.spec (λ c κs. search needs) returns (λ c κs. search needs) sub-led (λ c κs. search needs) returns-2 returns-3 (λ c κs. search needs)
+    (λ c. search needs) (λ c κs. search needs) sub-width (λ c. search needs) (λ c. search needs) (λ c. search needs) (λ c. search needs) led-requires-2
+    returns-4)

@@ -4,62 +4,71 @@ use mathlib.Core.Path.{_≡_, refl, _∙_}
 use Prim.Native.Nat.{_-_, _≤_}
 use native.Mathlib.Omega.{arith}
 use lib.ListN.{drop as dropped}
-use Rattle.code.specs.Meaning.{afterSign, bitsThatCount, longestRun}
+use Rattle.code.specs.Meaning.{afterSign, bitsThatCount, greatestPlace, longestRun}
 use Rattle.unpack.proofs.Parts.{answer-by, run-ends, run-goes-on, run-too-long, run-out}
 use Rattle.unpack.proofs.read.after_sign.Statement.{statement}
 use Rattle.unpack.proofs.read.after_sign.Tie as tie
 
 abbrev Inv-loop : tie.InvT-loop
 Inv-loop bytes at end drop sign ones₀ here₀ ones here =
-    (here ≤ end) × (ones ≤ longestRun) × (afterSign drop sign 0 (dropped at (bitsThatCount bytes)) ≡ afterSign drop sign ones (dropped here (bitsThatCount bytes)))
+    (here ≤ end) × (ones ≤ longestRun greatestPlace)
+    × (afterSign greatestPlace drop sign 0 (dropped at (bitsThatCount bytes)) ≡ afterSign greatestPlace drop sign ones (dropped here (bitsThatCount bytes)))
 
 abbrev μ-loop : tie.MeasureT-loop
 μ-loop bytes at end drop sign ones₀ here₀ ones here = end - here
 
 loop-holds : tie.Need-loop-holds Inv-loop μ-loop
-loop-holds c = (c .before .pre .3, omega arith, refl)
+loop-holds c = (c .before .pre .0 .inside, omega arith, refl)
 
 after-run-requires : tie.Need-after-run-requires Inv-loop μ-loop
 after-run-requires c κs =
-    let p = c .before .before .before .before .before .pre in
-    (p .0, p .1, p .2, omega arith, c .before .before .before .loop .inv .1)
+    let at-loop = c .before .before .before in
+    let p = at-loop .before .before .pre in
+    (record { end-is = p .0 .end-is; inside = omega arith; drop-is = p .0 .drop-is }, p .1, at-loop .loop .inv .1)
 
 returns : tie.Need-returns Inv-loop μ-loop
 returns c =
-    let l = c .before .before .before .before .loop in
-    let b = c .before .before .bit in
+    let at-if = c .before in
+    let at-bit = at-if .before in
+    let at-test = at-bit .before in
+    let at-loop = at-test .before in
+    let l = at-loop .loop in
     answer-by _ _ (l .inv .2)
-    (run-ends _ (l .here) _ _ _ _ (b .result) (c .before .before .before .before .before .before .pre .0) (c .before .before .before .loop-test .taken)
-    (b .ensures .0)
-    (c .before .if1 .taken))
+    (run-ends _ (l .here) _ (at-bit .bit .result) (at-loop .before .before .pre .0 .end-is) (at-test .loop-test .taken) (at-bit .bit .ensures .0) _ _ _
+    (at-if .if1 .taken))
     (c .after-run .ensures)
 
 returns-2 : tie.Need-returns-2 Inv-loop μ-loop
 returns-2 c =
-    let l = c .before .before .before .before .loop in
-    let b = c .before .before .bit in
+    let at-if = c .before in
+    let at-bit = at-if .before in
+    let at-test = at-bit .before in
+    let at-loop = at-test .before in
+    let l = at-loop .loop in
     answer-by _ _ (l .inv .2)
-    (run-too-long _ (l .here) _ _ _ (l .ones) (b .result) (c .before .before .before .before .before .before .pre .0)
-    (c .before .before .before .loop-test .taken) (b .ensures .0)
-    (c .before .if1 .left) (omega arith))
+    (run-too-long _ (l .here) _ (at-bit .bit .result) (at-loop .before .before .pre .0 .end-is) (at-test .loop-test .taken) (at-bit .bit .ensures .0) _ _
+    (l .ones) (at-if .if1 .left) (omega arith))
     refl
 
 loop-again : tie.Need-loop-again Inv-loop μ-loop
 loop-again c =
-    let l = c .before .before .before .before .loop in
-    let b = c .before .before .bit in (
+    let at-if = c .before in
+    let at-bit = at-if .before in
+    let at-test = at-bit .before in
+    let at-loop = at-test .before in
+    let l = at-loop .loop in (
       omega arith,
       omega arith,
       l .inv .2
-          ∙ run-goes-on _ (l .here) _ _ _ _ (b .result) (c .before .before .before .before .before .before .pre .0)
-          (c .before .before .before .loop-test .taken) (b .ensures .0)
-          (c .before .if1 .left) (c .if2 .left),
+          ∙ run-goes-on _ (l .here) _ (at-bit .bit .result) (at-loop .before .before .pre .0 .end-is) (at-test .loop-test .taken) (at-bit .bit .ensures .0)
+          _ _ (l .ones) (at-if .if1 .left) (c .if2 .left),
     )
 
 returns-3 : tie.Need-returns-3 Inv-loop μ-loop
 returns-3 c =
-    let l = c .before .loop in
-    answer-by _ _ (l .inv .2) (run-out _ (l .here) _ _ _ _ (c .before .before .before .pre .0) (c .loop-test .left)) refl
+    let at-loop = c .before in
+    let l = at-loop .loop in
+    answer-by _ _ (l .inv .2) (run-out _ (l .here) _ _ _ _ (at-loop .before .before .pre .0 .end-is) (c .loop-test .left)) refl
 
 pub after-sign-spec : {M : Type 1} → statement M
 after-sign-spec =

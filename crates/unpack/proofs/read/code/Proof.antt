@@ -1,12 +1,41 @@
--- `unpack::read::code` meets its contract: a position past the end has no bit.
+-- `unpack::read::code` meets its contract: no bit, nought, no sign, or what follows the sign.
 -- Assumes nothing.
-use Rattle.unpack.proofs.Parts.{code-out}
 use borrow.Author.Needs.{needs}
+use Rattle.unpack.proofs.Parts.{code-out, code-nought, sign-out, sign-there}
 use Rattle.unpack.proofs.read.code.Statement.{statement}
 use Rattle.unpack.proofs.read.code.Tie as tie
 
+returns : tie.Need-returns
+returns c = code-out _ _ _ _ (c .before .before .pre .end-is) (c .if1 .taken)
+
 returns-2 : tie.Need-returns-2
-returns-2 c = code-out _ _ _ _ (c .before .before .pre .0) (c .if1 .left)
+returns-2 c =
+    let at-two = c .before in
+    let at-bit = at-two .before in
+    let at-one = at-bit .before in
+    code-nought _ _ _ _ (at-bit .bit .result) (at-one .before .before .pre .end-is) (at-one .if1 .left) (at-bit .bit .ensures .0) _ (at-two .if2 .taken)
+    (c .where-dropped .ensures)
+
+returns-3 : tie.Need-returns-3
+returns-3 c =
+    let at-two = c .before in
+    let at-bit = at-two .before in
+    let at-one = at-bit .before in
+    sign-out _ _ _ _ (at-bit .bit .result) (at-one .before .before .pre .end-is) (at-one .if1 .left) (at-bit .bit .ensures .0) (at-two .if2 .left)
+    (c .if3 .taken)
+
+returns-4 : tie.Need-returns-4
+returns-4 c =
+    let at-sign = c .before in
+    let at-three = at-sign .before in
+    let at-two = at-three .before in
+    let at-bit = at-two .before in
+    let at-one = at-bit .before in
+    sign-there _ _ _ _ (at-bit .bit .result) (at-one .before .before .pre .end-is) (at-one .if1 .left) (at-bit .bit .ensures .0) (at-sign .bit-wide .result)
+    (at-two .if2 .left) (at-three .if3 .left) (at-sign .bit-wide .ensures .0) (c .after-sign .ensures)
 
 pub code-spec : {M : Type 1} → statement M
-code-spec = tie.close (tie.spec (λ c κs. search needs) (λ c. search needs) returns-2)
+code-spec =
+    tie.close
+    (tie.spec returns (λ c κs. search needs) (λ c κs. search needs) (λ c. search needs) returns-2 (λ c. search needs) returns-3 (λ c. search needs)
+    (λ c κs. search needs) (λ c. search needs) (λ c κs. search needs) returns-4)

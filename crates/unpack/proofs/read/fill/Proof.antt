@@ -4,7 +4,7 @@ use Prim.Native.Nat.{_-_}
 use native.Mathlib.Omega.{arith}
 use borrow.Author.Needs.{needs}
 use Rattle.unpack.proofs.Reading.{fill-shifts, fill-none}
-use Rattle.code.proofs.Numbers.{shift-positive}
+use Rattle.code.specs.Numbers.{shift-positive}
 use Rattle.unpack.proofs.read.fill.Statement.{statement}
 use Rattle.unpack.proofs.read.fill.Tie as tie
 

@@ -1,49 +1,51 @@
 -- `unpack::read::small` meets its contract: bits ran out, zeros, or a magnitude under 16.
 -- Assumes nothing.
-use mathlib.Core.Path.{ap, _∙_}
 use native.Mathlib.Omega.{arith}
 use borrow.Author.Needs.{needs}
-use Rattle.code.specs.Answers.{unpackedPaper}
-use Rattle.code.specs.Magnitudes.{drop-small}
+use mathlib.Core.Path.{_∙_}
+use Rattle.code.specs.Shapes.{drop-small}
 use Rattle.unpack.proofs.Parts.{small-out, small-zeros, small-number, small-fits}
-use mathlib.Core.Path.{refl}
 use Rattle.unpack.proofs.read.small.Statement.{statement}
 use Rattle.unpack.proofs.read.small.Tie as tie
 
 sub-width : tie.Need-sub-width
-sub-width c = omega (arith, drop-small (c .before .pre .1))
+sub-width c = omega (arith, drop-small (c .before .before .pre .0 .drop-is), c .wide .ensures)
 
 returns : tie.Need-returns
-returns c = small-out _ _ _ _ _ (c .before .before .pre .0) (c .if1 .taken)
+returns c =
+    let at-wide = c .before in
+    small-out _ _ _ _ _ _ (at-wide .before .before .pre .0 .end-is) (at-wide .wide .ensures) (c .if1 .taken)
 
 returns-2 : tie.Need-returns-2
 returns-2 c =
-    let p = c .before .before .before .before .before .pre in
-    let f = c .before .before .field in
+    let at-field = c .before .before in
+    let at-else = at-field .before in
+    let at-wide = at-else .before in
+    let p = at-wide .before .before .pre .0 in
     c .small-zero .ensures
-    ∙ small-zeros _ _ _ _ _ (f .result) (p .1) (p .0) (p .3) (c .before .before .before .if1 .left) (f .ensures .0) (c .before .if2 .taken)
+    ∙ small-zeros _ _ _ _ _ _ (p .end-is) (at-wide .wide .ensures) (at-field .field .result) (p .drop-is) (p .inside) (at-else .if1 .left)
+    (at-field .field .ensures .0) (c .before .if2 .taken)
 
 fill-requires : tie.Need-fill-requires
 fill-requires c κs =
-    let p = c .before .before .before .before .pre in
-    let f = c .before .field in
-    (omega (arith, drop-small (p .1)), omega (arith, small-fits _ (f .result) _ (p .1) (f .ensures .1) refl))
-
-number-requires : tie.Need-number-requires
-number-requires c κs =
-    let f = c .before .before .field in
-    omega (arith, small-fits _ (f .result) (c .fill .result) (c .before .before .before .before .before .pre .1) (f .ensures .1) (c .fill .ensures))
+    let at-field = c .before in
+    let at-wide = at-field .before .before in
+    let fits = small-fits _ _ (at-field .field .result) (at-wide .before .before .pre .0 .drop-is) (at-wide .wide .ensures) (at-field .field .ensures .1) in
+    (fits .0, omega (arith, fits .1))
 
 returns-3 : tie.Need-returns-3
 returns-3 c =
-    let p = c .before .before .before .before .before .before .pre in
-    let f = c .before .before .before .field in
-    ap unpackedPaper (c .number .ensures)
-    ∙ small-number _ _ _ _ _ (f .result) _ (p .1) (p .0) (p .3) (c .before .before .before .before .if1 .left) (f .ensures .0) (c .before .before .if2 .left)
-    (c .before .fill .ensures)
+    let at-fill = c .before in
+    let at-two = at-fill .before in
+    let at-field = at-two .before in
+    let at-else = at-field .before in
+    let at-wide = at-else .before in
+    let p = at-wide .before .before .pre .0 in
+    small-number _ _ _ _ _ _ (p .end-is) (at-wide .wide .ensures) (at-field .field .result) (p .drop-is) (p .inside) (at-else .if1 .left)
+    (at-field .field .ensures .0) _ _ (at-two .if2 .left) (at-fill .fill .ensures) (c .where-dropped .ensures)
 
 pub small-spec : {M : Type 1} → statement M
 small-spec =
     tie.close
-    (tie.spec sub-width (λ c. search needs) (λ c. search needs) returns (λ c κs. search needs) (λ c. search needs) (λ c. search needs)
-    (λ c κs. search needs) returns-2 fill-requires number-requires returns-3)
+    (tie.spec (λ c κs. search needs) sub-width (λ c. search needs) (λ c. search needs) returns (λ c κs. search needs) (λ c. search needs)
+    (λ c. search needs) (λ c κs. search needs) returns-2 fill-requires (λ c κs. search needs) returns-3)
