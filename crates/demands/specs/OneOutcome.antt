@@ -27,7 +27,8 @@ pub use Rattle.rate.specs.OneOutcome.{reading-one, rate-one, reading-number-one
 -- two pages of counters
 pub use Rattle.pages.specs.OneOutcome.{sized-one, clear-one, count-one, take-one}
 -- histogram memory
-pub use Rattle.histogram.specs.OneOutcome.{open-one, increment-one, flip-one, ask-one, open-number-one, increment-number-one, flip-number-one, ask-number-one}
+pub use Rattle.histogram.specs.OneOutcome.{open-one, increment-one, increments-one, next-one, flip-one, ask-one}
+pub use Rattle.histogram.specs.OneOutcome.{open-number-one, increment-number-one, increments-number-one, next-number-one, flip-number-one, ask-number-one}
 -- the code program's lines
 pub use Rattle.lines.specs.OneOutcome.{fresh-one, with-byte-one, header-one as lines-header-one, put-answer-one, run-one}
 -- what the code program prints with
@@ -41,4 +42,5 @@ pub use Rattle.plavotesk.specs.OneOutcome.{plv-code-pack-one, plv-code-unpack-o
 pub use Rattle.plavotesk.specs.OneOutcome.{plv-float16-code-one, plv-float8-code-one, plv-int24-code-one, plv-int24-count-one}
 pub use Rattle.plavotesk.specs.OneOutcome.{plv-level-seconds-one, plv-second-beginning-one, plv-second-ending-one}
 -- the C interface: histogram memory
-pub use Rattle.plavotesk.specs.OneOutcome.{plv-histogram-open-one, plv-histogram-increment-one, plv-histogram-flip-one, plv-histogram-ask-one}
+pub use Rattle.plavotesk.specs.OneOutcome.{plv-histogram-open-one, plv-histogram-increment-one, plv-histogram-increments-one, plv-histogram-next-one}
+pub use Rattle.plavotesk.specs.OneOutcome.{plv-histogram-flip-one, plv-histogram-ask-one, plv-version-one}

@@ -32,7 +32,8 @@ use Rattle.pages.specs.declared.Window.{Window}
 use Rattle.pages.specs.Answers.{countPaper, takenPaper}
 use Rattle.pages.specs.Outcomes.{count-stays, take-stays}
 use Rattle.pages.specs.Promise.{CountPromise, TakePromise}
-use Rattle.histogram.specs.Meaning.{CallOutcome, Value, lent, openMeans}
+use Rattle.histogram.specs.Feeding.{increments-stays}
+use Rattle.histogram.specs.Meaning.{CallOutcome, Fed, Lent, Value, incrementsMeans, lent, nextMeans, openMeans}
 use Rattle.histogram.specs.Outcomes.{call-stays, open-stays}
 use Rattle.histogram.specs.Runs.{Call, increment, flip, ask, callMeans}
 use Rattle.plavotesk.specs.Meaning.{AskValues, Edges, Quotients, edgesOf, quotientsOf, toldAs, toldAsk, toldFound, toldWith}
@@ -40,6 +41,7 @@ use Rattle.plavotesk.specs.Promise.{Sentence, PacketFindPromise, PacketHeaderPr
 use Rattle.plavotesk.specs.Promise.{CodePackPromise, CodeUnpackPromise, ReadingPromise, RatePromise, Float16CodePromise, Float8CodePromise, Int24Promise}
 use Rattle.plavotesk.specs.Promise.{LevelSecondsPromise, SecondBeginningPromise, SecondEndingPromise, Left, leftBy}
 use Rattle.plavotesk.specs.Promise.{HistogramOpenPromise, HistogramIncrementPromise, HistogramFlipPromise, HistogramAskPromise}
+use Rattle.plavotesk.specs.Promise.{HistogramIncrementsPromise, HistogramNextPromise}
 
 -- ---- the crates' calls
 
@@ -72,6 +74,9 @@ take-refused m page w r after p = refused-left (p .outcome) (take-stays m page w
 pub open-refused : (m w : List ℕ) → Stays (lent m w) (openMeans m w)
 open-refused = open-stays
 
+pub increments-refused : (m w addresses : List ℕ) → Stays (lent m w) (incrementsMeans m w addresses)
+increments-refused = increments-stays
+
 pub call-refused : (m w : List ℕ) (c : Call) → Stays (lent m w) (callMeans m w c)
 call-refused = call-stays
 
@@ -101,12 +106,12 @@ pub sentence-refused : (Holds : Paper ℕ → Type 0) (held : ℕ) (o : ℕ × �
 sentence-refused Holds held o s f = exported-refused (λ (v : ℕ). v) (s .answer) held o (s .outcome) f
 
 -- the same with a buffer
-exported-writes : (means : Outcome ℕ (List ℕ)) (held : ℕ) (buffer : List ℕ) → Stays buffer means → (o : (ℕ × ℕ) × List ℕ) → o ≡ toldWith means held
+exported-writes : {A L : Type 0} (means : Outcome A L) (held : A) (buffer : L) → Stays buffer means → (o : (ℕ × A) × L) → o ≡ toldWith means held
     → Refuses (o .0 .0) → (o .0 .1 ≡ held) × (o .1 ≡ buffer)
-exported-writes means held buffer stays o e f =
-    let first : o .0 ≡ toldWith means held .0 = ap (λ (y : (ℕ × ℕ) × List ℕ). y .0) e in
-    let number : o .0 .0 ≡ numberOf (means .answer) = ap (λ (y : ℕ × ℕ). y .0) first ∙ told-number (λ (v : ℕ). v) (means .answer) held in
-    (exported-refused (λ (v : ℕ). v) (means .answer) held (o .0) first f, ap (λ (y : (ℕ × ℕ) × List ℕ). y .1) e ∙ stays (λ z. f (number ∙ z)))
+exported-writes {A} {L} means held buffer stays o e f =
+    let first : o .0 ≡ toldWith means held .0 = ap (λ (y : (ℕ × A) × L). y .0) e in
+    let number : o .0 .0 ≡ numberOf (means .answer) = ap (λ (y : ℕ × A). y .0) first ∙ told-number (λ (v : A). v) (means .answer) held in
+    (exported-refused (λ (v : A). v) (means .answer) held (o .0) first f, ap (λ (y : (ℕ × A) × L). y .1) e ∙ stays (λ z. f (number ∙ z)))
 
 -- finding: the place keeps what it held; the bytes skipped come with 20 alone
 pub plv-packet-find-refused : (capture : List ℕ) (held : FoundValues) (o : ℕ × FoundValues) → PacketFindPromise capture held o
@@ -193,6 +198,16 @@ plv-histogram-open-refused m w = left-refused m w (openMeans m w) (open-stays m 
 pub plv-histogram-increment-refused : (m w : List ℕ) (a : ℕ) (o : Left) → HistogramIncrementPromise m w a o → Refuses (o .number)
     → (o .memory ≡ m) × (o .state ≡ w)
 plv-histogram-increment-refused m w a = left-refused m w (callMeans m w (increment a)) (call-stays m w (increment a))
+
+-- a run of increments: its lent places too
+pub plv-histogram-increments-refused : (m w addresses : List ℕ) (held : Fed) (o : (ℕ × Fed) × Lent) → HistogramIncrementsPromise m w addresses held o
+    → Refuses (o .0 .0) → (o .0 .1 ≡ held) × (o .1 ≡ lent m w)
+plv-histogram-increments-refused m w addresses held =
+    exported-writes (incrementsMeans m w addresses) held (lent m w) (increments-stays m w addresses)
+
+-- the number of the next ask
+pub plv-histogram-next-refused : (w : List ℕ) (held : ℕ) (o : ℕ × ℕ) → HistogramNextPromise w held o → Refuses (o .0) → o .1 ≡ held
+plv-histogram-next-refused w held o = exported-refused (λ (v : ℕ). v) (nextMeans w) held o
 
 -- a flip
 pub plv-histogram-flip-refused : (m w : List ℕ) (o : Left) → HistogramFlipPromise m w o → Refuses (o .number) → (o .memory ≡ m) × (o .state ≡ w)
