@@ -1,7 +1,22 @@
 //! The proved calls of Plavotesk for benches written in Rust: packets, messages, packed codes, count formats, the cadence and
 //! histogram memory with numbered asks.
 //!
-//! Every call takes all inputs; a bad one is refused by document 01's number, and a refusal changes nothing.
+//! Every call takes all inputs; a bad one is refused by document 01's number ([`Refusal`], by name), and a refusal changes nothing.
+//!
+//! ```
+//! let mut buffer = [0; 64];
+//! plavotesk::packet_write(&mut buffer, 0x0301, b"counts").unwrap();
+//! let found = plavotesk::packet_find(&buffer).unwrap();
+//! assert_eq!(plavotesk::packet_header(&buffer, found.place).unwrap().apid, 0x0301);
+//! assert_eq!(plavotesk::packet_payload(&buffer, found.place), b"counts");
+//!
+//! plavotesk::code_pack(&mut buffer, 0, 100, 0).unwrap();
+//! let (decoded, _) = plavotesk::code_unpack(&buffer, 0, 0).unwrap();
+//! let (reading, _) = plavotesk::reading(&buffer, 0, 0).unwrap();
+//! assert_eq!((decoded, reading), (99, plavotesk::Reading::Between(95.0, 103.0))); // what went in lies in the band
+//! ```
+//!
+//! The library is built for x86-64 Linux (`bin/build`); a call may come from any thread, and what one call is lent no other is lent.
 
 pub mod raw;
 
@@ -59,6 +74,38 @@ pub fn packet_payload(capture: &[u8], place: usize) -> &[u8] {
     // SAFETY: what is lent is lent as it is; the places are ours.
     unsafe { raw::plv_packet_payload(capture.as_ptr(), capture.len(), place as u64, &mut start, &mut length) };
     &capture[start as usize..][..length as usize]
+}
+
+/// A packet of a capture: where it stands, its APID, its data, and the bytes skipped since the packet before it.
+#[derive(Clone, Copy, Debug, PartialEq, Eq)]
+pub struct Packet<'a> {
+    pub place: usize,
+    pub apid: u16,
+    pub data: &'a [u8],
+    pub skipped: u64,
+}
+
+/// The packets of a capture, one after the other; it ends where none stands any more. Refusal 1.
+///
+/// ```
+/// let mut capture = [0; 40];
+/// let first = plavotesk::packet_write(&mut capture[5..], 7, b"one").unwrap();
+/// plavotesk::packet_write(&mut capture[5 + first..], 8, b"").unwrap();
+/// let seen: Vec<_> = plavotesk::packets(&capture).unwrap().map(|p| (p.place, p.apid, p.data.len(), p.skipped)).collect();
+/// assert_eq!(seen, [(5, 7, 3, 5), (18, 8, 0, 0)]);
+/// ```
+pub fn packets(capture: &[u8]) -> Answer<impl Iterator<Item = Packet<'_>>> {
+    if capture.len() > 65_536 {
+        return Err(Refusal::CaptureTooLong);
+    }
+    let mut start = 0;
+    Ok(std::iter::from_fn(move || {
+        let Found { place, skipped } = packet_find(&capture[start..]).ok()?;
+        let place = start + place;
+        let (apid, data) = (packet_header(capture, place).ok()?.apid, packet_payload(capture, place));
+        start = place + data.len() + 10;
+        Some(Packet { place, apid, data, skipped })
+    }))
 }
 
 /// Writes a packet to the front of a buffer, and answers its bytes.
