@@ -37,8 +37,12 @@ static struct answer over_the_link(struct board *board, uint16_t number, uint32_
     return answer;
 }
 
-/* Asks until an answer comes, always under the same number, and gives the sum to file. */
-static uint64_t ask(struct board *board, uint16_t number, uint32_t first) {
+/* Draws a number for an ask, asks until an answer comes, always under that number, and gives the sum to file. */
+static uint64_t ask(struct board *board, uint32_t first) {
+    uint16_t number = 0;
+    if (plv_histogram_next(board->state, PLV_STATE_WORDS, &number) != PLV_ACCEPTED) {
+        exit(1);
+    }
     for (int tried = 0;; tried++) {
         struct answer answer = over_the_link(board, number, first, tried);
         if (!answer.came) {
@@ -71,7 +75,7 @@ int main(void) {
         return 1;
     }
     for (int i = 0; i < WINDOWS; i++) {
-        sheet[i] = ask(&board, (uint16_t)(i + 1), (uint32_t)(16 * i));
+        sheet[i] = ask(&board, (uint32_t)(16 * i));
         filed += sheet[i];
     }
     printf("count sheet\n");

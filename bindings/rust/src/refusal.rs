@@ -1,6 +1,8 @@
 //! Why a call was refused.
 
+use crate::raw;
 use std::fmt;
+use std::sync::Once;
 
 /// Why a call was refused, by name; a refused call changed nothing.
 #[derive(Clone, Copy, Debug, PartialEq, Eq, Hash)]
@@ -146,8 +148,22 @@ impl std::error::Error for Refusal {}
 /// What a call answers: its values, or why not.
 pub type Answer<T> = Result<T, Refusal>;
 
+/// A library of another version has other calls, or other state words.
+static VERSION: Once = Once::new();
+
+/// Says so, once, in a plain sentence.
+fn same_version() {
+    VERSION.call_once(|| {
+        // SAFETY: it takes nothing.
+        let has = unsafe { raw::plv_version() };
+        let speaks = raw::VERSION;
+        assert!(has == speaks, "the library of plavotesk has version {has}, and this crate speaks version {speaks}: run bin/build in its checkout");
+    });
+}
+
 /// The values where the number is 0, else the refusal.
 pub(crate) fn answer<T>(number: u8, values: T) -> Answer<T> {
+    same_version();
     match Refusal::of(number, None) {
         None => Ok(values),
         Some(refusal) => Err(refusal),
