@@ -1,6 +1,7 @@
 -- A run over what is left of a piece.
 -- Assumes nothing.
 use mathlib.Core.Path.{_≡_, sym, ap, _∙_}
+use mathlib.Core.Bool.{Bool}
 use mathlib.Core.List.{List}
 use Prim.Native.Nat.{ℕ, _+_, _-_, _<_, _≤_}
 use native.Mathlib.Omega.{arith}
@@ -8,6 +9,7 @@ use lib.ListN.{length, take, drop, length-take, length-drop, drop-of-length-le}
 use lib.Seq.{drop-drop, take-all}
 use Rattle.lines.specs.declared.Line.{Line}
 use Rattle.lines.specs.declared.Ran.{Ran}
+use Rattle.lines.specs.declared.Printed.{Printed}
 use Rattle.lines.specs.Promise.{RunPromise}
 use Rattle.lines.specs.Meaning.{enough}
 use Rattle.lines.specs.Moving.{run-used, run-moves}
@@ -39,7 +41,7 @@ module _ (piece : List ℕ) (at : ℕ) {line : Line} {room after : List ℕ} {r 
       ∙ e
 
 -- at the end of the piece all of it is taken
-pub all-taken : (piece : List ℕ) (at : ℕ) {line last : Line} → lineAfter last (drop at piece) ≡ lineAfter line piece → length piece ≤ at
-    → PrintPiecePromise line piece last
-all-taken piece at {line} {last} e h =
+pub all-taken : (piece : List ℕ) (at : ℕ) {line last : Line} {taken : Bool} → lineAfter last (drop at piece) ≡ lineAfter line piece
+    → length piece ≤ at → PrintPiecePromise line piece (record { line = last; taken = taken })
+all-taken piece at {line} {last} {taken} e h =
     record { answer = sym (after-none last) ∙ ap (lineAfter last) (sym (drop-of-length-le piece h)) ∙ e }

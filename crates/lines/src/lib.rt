@@ -133,3 +133,15 @@ pub fn run(line: Line, input: &[u8], room: &mut [u8]) -> Ran
         put,
     }
 }
+
+// What was handed to standard output: how many bytes, and whether it took them all.
+pub struct Output {
+    pub put: usize,
+    pub taken: bool,
+}
+
+// What printing a piece answers: the line that does not end in it, and whether standard output took the answers of those that do.
+pub struct Printed {
+    pub line: Line,
+    pub taken: bool,
+}

@@ -12,11 +12,11 @@ use Rattle.lines.proofs.printing.print_runs.Statement.{statement}
 use Rattle.lines.proofs.printing.print_runs.Tie as tie
 
 abbrev Inv-loop : tie.InvT-loop
-Inv-loop piece room₀ current₀ at₀ room current at = (at ≤ length piece) × (length room ≡ length room₀) ×
+Inv-loop piece room₀ current₀ at₀ taken₀ room current at taken = (at ≤ length piece) × (length room ≡ length room₀) ×
     (lineAfter current (drop at piece) ≡ lineAfter current₀ piece)
 
 abbrev μ-loop : tie.MeasureT-loop
-μ-loop piece room₀ current₀ at₀ room current at = length piece - at
+μ-loop piece room₀ current₀ at₀ taken₀ room current at taken = length piece - at
 
 handed-requires : tie.Need-handed-requires Inv-loop μ-loop
 handed-requires c κs = run-put (c .before .before .before .run .ensures)
