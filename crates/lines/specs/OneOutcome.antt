@@ -46,8 +46,8 @@ print-header-one p q = one-value (p .answer) (q .answer)
 
 -- `print_piece` has one outcome but for whether the answers were taken
 pub print-piece-one : {line : Line} {piece : List ℕ} {r s : Printed} → PrintPiecePromise line piece r → PrintPiecePromise line piece s
-    → r .line ≡ s .line
-print-piece-one p q = one-value (p .answer) (q .answer)
+    → (r .line ≡ s .line) × (r .put ≡ s .put)
+print-piece-one p q = (one-value (p .answer) (q .answer), one-value (p .count) (q .count))
 
 -- `print_last` has one outcome
 pub print-last-one : {line : Line} {r s : ℕ} → PrintLastPromise line r → PrintLastPromise line s → r ≡ s

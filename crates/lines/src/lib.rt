@@ -140,8 +140,10 @@ pub struct Output {
     pub taken: bool,
 }
 
-// What printing a piece answers: the line that does not end in it, and whether standard output took the answers of those that do.
+// What printing a piece answers: the line that does not end in it, how many bytes the answers of those that do have, and whether
+// standard output took them all.
 pub struct Printed {
     pub line: Line,
+    pub put: usize,
     pub taken: bool,
 }

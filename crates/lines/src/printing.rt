@@ -2,10 +2,10 @@
 // the answer of a last line. Each call has a room of its own, so that no lent memory is left open. Whether standard output took
 // the bytes is answered as the system says it: where it did not, nothing more is handed over, and the program stops.
 ghost use mathlib.Core.Path.{_≡_};
-ghost use Prim.Native.Nat.{_≤_};
+ghost use Prim.Native.Nat.{_+_, _≤_};
 ghost use lib.ListN.{length};
 ghost use Rattle.lines.specs.Meaning.{enough};
-ghost use Rattle.lines.specs.Printing.{PrintHeaderPromise, PrintLastPromise, PrintPiecePromise};
+ghost use Rattle.lines.specs.Printing.{PrintHeaderPromise, PrintLastPromise, PrintPiecePromise, counted};
 use crate::Line;
 use crate::Output;
 use crate::Printed;
@@ -52,17 +52,31 @@ fn print_runs(line: Line, piece: &[u8], room: &mut [u8]) -> Printed
 {
     let mut current = line;
     let mut at = 0;
+    let mut put = 0;
     let mut taken = true;
     while at < piece.len() {
         let ran = run(current, &piece[at..], room);
         let given = handed(taken, room, ran.put);
+        put = with_more(put, given.put);
         current = ran.line;
         taken = given.taken;
         at += ran.used;
     }
     Printed {
         line: current,
+        put,
         taken,
+    }
+}
+
+// A count with so many more, up to the greatest number.
+fn with_more(count: usize, more: usize) -> usize
+    ensures { λ r. ⌜ r ≡ counted (count + more) ⌝ }
+{
+    if usize::MAX - count < more {
+        usize::MAX
+    } else {
+        count + more
     }
 }
 
