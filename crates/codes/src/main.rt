@@ -1,25 +1,38 @@
 // The code program: its header, then for each line of standard input the value and both codes, or `refused 8`. It only moves
 // bytes; the lines are taken apart, answered and printed by the crate `lines`.
+ghost use Rattle.io.specs.Counts.{Counts};
 use libc::STDIN_FILENO;
-use lines::Line;
 
 fn main() {
     let mut input = io::large_buffer();
-    lines::print_header();
-    let line = print_lines(&mut input);
+    let header = lines::print_header();
+    if header.taken {
+        print_lines(&mut input);
+    }
+}
+
+// Prints the answer of every line as it is entered, and at the end of the input that of a last line; it stops where standard
+// output takes no more. A proved loop has to end: it counts its turns down, from a number that no run uses up.
+fn print_lines(input: &mut [u8]) {
+    let mut line = lines::fresh_line();
+    let mut turns = u64::MAX;
+    let mut got = read(input);
+    while turns > 0 && got > 0 {
+        let printed = lines::print_piece(line, &input[..got]);
+        if !printed.taken {
+            return;
+        }
+        line = printed.line;
+        got = read(input);
+        turns -= 1;
+    }
     lines::print_last(line);
 }
 
-// Prints the answer of every line that ends, and gives the line that does not. A proved loop has to end: it counts its turns
-// down, from a number that no run uses up.
-fn print_lines(input: &mut [u8]) -> Line {
-    let mut line = lines::fresh_line();
-    let mut turns = u64::MAX;
-    let mut got = io::read_full(STDIN_FILENO, input);
-    while turns > 0 && got > 0 {
-        line = lines::print_piece(line, &input[..got]);
-        got = io::read_full(STDIN_FILENO, input);
-        turns -= 1;
-    }
-    line
+// Reads what there is, without waiting for more; how many bytes. At the end of the input there are none.
+fn read(input: &mut [u8]) -> usize
+    ensures { λ r. ⌜ Counts r (now (input .exit)) ⌝ }
+{
+    let got = libc::read(STDIN_FILENO, input);
+    io::count(got, input)
 }

@@ -8,6 +8,7 @@ use borrow.Author.Tests.{le-ltb}
 use lib.ListN.{length}
 use Rattle.ground.specs.Choice.{pick}
 use Rattle.lines.specs.declared.Line.{Line}
+use Rattle.lines.specs.declared.Output.{Output}
 use Rattle.lines.specs.Meaning.{header}
 use Rattle.lines.specs.Reading.{answerOf}
 use Rattle.lines.specs.Meaning.{enough}
@@ -15,7 +16,8 @@ use Rattle.lines.specs.Promise.{HeaderPromise, AnswerPromise}
 use Rattle.lines.specs.Printing.{PrintHeaderPromise, PrintLastPromise}
 
 -- all of the header
-pub header-all : {room after : List ℕ} {put r : ℕ} → HeaderPromise room put after → enough ≤ length room → r ≡ put → PrintHeaderPromise r
+pub header-all : {room after : List ℕ} {put : ℕ} {r : Output} → HeaderPromise room put after → enough ≤ length room → r .put ≡ put
+    → PrintHeaderPromise r
 header-all {room} p h g = record { answer = g ∙ p .answer ∙ ap (λ (x : Bool). pick x 0 (length header)) (le-ltb (length room) enough h) }
 
 -- all of the answer of a line that has any bytes

@@ -133,3 +133,17 @@ pub fn run(line: Line, input: &[u8], room: &mut [u8]) -> Ran
         put,
     }
 }
+
+// What was handed to standard output: how many bytes, and whether it took them all.
+pub struct Output {
+    pub put: usize,
+    pub taken: bool,
+}
+
+// What printing a piece answers: the line that does not end in it, how many bytes the answers of those that do have, and whether
+// standard output took them all.
+pub struct Printed {
+    pub line: Line,
+    pub put: usize,
+    pub taken: bool,
+}

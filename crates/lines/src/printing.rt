@@ -1,27 +1,30 @@
 // What the code program hands to standard output: the header, the answers of the lines that end in a piece of the input, and
-// the answer of a last line. Each call has a room of its own, so that no lent memory is left open.
+// the answer of a last line. Each call has a room of its own, so that no lent memory is left open. Whether standard output took
+// the bytes is answered as the system says it: where it did not, nothing more is handed over, and the program stops.
 ghost use mathlib.Core.Path.{_≡_};
-ghost use Prim.Native.Nat.{_≤_};
+ghost use Prim.Native.Nat.{_+_, _≤_};
 ghost use lib.ListN.{length};
 ghost use Rattle.lines.specs.Meaning.{enough};
-ghost use Rattle.lines.specs.Printing.{PrintHeaderPromise, PrintLastPromise, PrintPiecePromise};
+ghost use Rattle.lines.specs.Printing.{PrintHeaderPromise, PrintLastPromise, PrintPiecePromise, counted};
 use crate::Line;
+use crate::Output;
+use crate::Printed;
 use crate::put_answer;
 use crate::put_header;
 use crate::run;
 use libc::STDOUT_FILENO;
 
-// Prints the header; how many bytes were handed over.
-pub fn print_header() -> usize
+// Prints the header; how many bytes were handed over, and whether they were taken.
+pub fn print_header() -> Output
     ensures { λ r. ⌜ PrintHeaderPromise r ⌝ }
 {
     let mut room = io::large_buffer();
     let put = put_header(&mut room);
-    handed(&room, put)
+    handed(true, &room, put)
 }
 
 // Prints the answers of the lines that end in a piece of the input, and gives the line that does not.
-pub fn print_piece(line: Line, piece: &[u8]) -> Line
+pub fn print_piece(line: Line, piece: &[u8]) -> Printed
     ensures { λ r. ⌜ PrintPiecePromise line (now (piece .entry)) r ⌝ }
 {
     let mut room = io::large_buffer();
@@ -36,34 +39,52 @@ pub fn print_last(line: Line) -> usize
     if begun {
         let mut room = io::large_buffer();
         let said = put_answer(line, &mut room);
-        handed(&room, said)
+        handed(true, &room, said).put
     } else {
         0
     }
 }
 
 // Prints a piece's answers, as many at a time as the room takes, and gives the line that does not end.
-fn print_runs(line: Line, piece: &[u8], room: &mut [u8]) -> Line
+fn print_runs(line: Line, piece: &[u8], room: &mut [u8]) -> Printed
     requires { ⌜ enough ≤ length (now room) ⌝ }
     ensures { λ r. ⌜ PrintPiecePromise line (now (piece .entry)) r ⌝ }
 {
     let mut current = line;
     let mut at = 0;
+    let mut put = 0;
+    let mut taken = true;
     while at < piece.len() {
         let ran = run(current, &piece[at..], room);
-        handed(room, ran.put);
+        let given = handed(taken, room, ran.put);
+        put = with_more(put, given.put);
         current = ran.line;
+        taken = given.taken;
         at += ran.used;
     }
-    current
+    Printed {
+        line: current,
+        put,
+        taken,
+    }
 }
 
-// Hands the bytes at the front of a room over; how many they are. What `io::write_all` answers is not looked at: where standard
-// output is closed nothing more can be said.
-fn handed(room: &[u8], count: usize) -> usize
-    requires { ⌜ count ≤ length (now room) ⌝ }
-    ensures { λ r. ⌜ r ≡ count ⌝ }
+// A count with so many more, up to the greatest number.
+fn with_more(count: usize, more: usize) -> usize
+    ensures { λ r. ⌜ r ≡ counted (count + more) ⌝ }
 {
-    io::write_all(STDOUT_FILENO, &room[..count]);
-    count
+    if usize::MAX - count < more {
+        usize::MAX
+    } else {
+        count + more
+    }
+}
+
+// Hands the bytes at the front of a room over, where all so far was taken; how many they are, and whether all is taken now.
+fn handed(so_far: bool, room: &[u8], count: usize) -> Output
+    requires { ⌜ count ≤ length (now room) ⌝ }
+    ensures { λ r. ⌜ r .put ≡ count ⌝ }
+{
+    let taken = so_far && io::write_all(STDOUT_FILENO, &room[..count]);
+    Output { put: count, taken }
 }

@@ -1,25 +1,29 @@
 // The code program on small reads, a test program: it is fed a hard input, 61 bytes at a time, so that lines of every length up
 // to ten are cut by the end of a read, each at every place.
 use libc::STDIN_FILENO;
-use lines::Line;
 
 fn main() {
     let mut input = [0u8; 61];
-    lines::print_header();
-    let line = print_lines(&mut input);
-    lines::print_last(line);
+    let header = lines::print_header();
+    if header.taken {
+        print_lines(&mut input);
+    }
 }
 
-// Prints the answer of every line that ends, and gives the line that does not. A proved loop has to end: it counts its turns
-// down, from a number that no run uses up.
-fn print_lines(input: &mut [u8]) -> Line {
+// Prints the answer of every line, and at the end of the input that of a last line; it stops where standard output takes no more.
+// A proved loop has to end: it counts its turns down, from a number that no run uses up.
+fn print_lines(input: &mut [u8]) {
     let mut line = lines::fresh_line();
     let mut turns = u64::MAX;
     let mut got = io::read_full(STDIN_FILENO, input);
     while turns > 0 && got > 0 {
-        line = lines::print_piece(line, &input[..got]);
+        let printed = lines::print_piece(line, &input[..got]);
+        if !printed.taken {
+            return;
+        }
+        line = printed.line;
         got = io::read_full(STDIN_FILENO, input);
         turns -= 1;
     }
-    line
+    lines::print_last(line);
 }
