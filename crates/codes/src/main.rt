@@ -6,7 +6,7 @@ use libc::STDIN_FILENO;
 fn main() {
     let mut input = io::large_buffer();
     let header = lines::print_header();
-    if header.taken {
+    if header.written {
         print_lines(&mut input);
     }
 }
@@ -19,7 +19,7 @@ fn print_lines(input: &mut [u8]) {
     let mut got = read(input);
     while turns > 0 && got > 0 {
         let printed = lines::print_piece(line, &input[..got]);
-        if !printed.taken {
+        if !printed.written {
             return;
         }
         line = printed.line;

@@ -13,7 +13,7 @@ use Rattle.lines.specs.declared.Printed.{Printed}
 use Rattle.lines.specs.Promise.{RunPromise}
 use Rattle.lines.specs.Meaning.{enough}
 use Rattle.lines.specs.Moving.{run-used, run-moves}
-use Rattle.lines.specs.Printing.{PrintPiecePromise, counted}
+use Rattle.lines.specs.Printing.{PrintPiecePromise, capped}
 use Rattle.lines.specs.After.{lineAfter, after-none, run-left, answersWithin, within-none, run-count}
 
 -- all that is left, as a part
@@ -45,9 +45,9 @@ module _ (piece : List ℕ) (at : ℕ) {line : Line} {room after : List ℕ} {r 
       ∙ e
 
   -- and so does the count
-  pub counts-to : (put end : ℕ) {given next : ℕ} → next ≡ counted (put + given) → given ≡ r .put
-      → counted (put + length (answersWithin line (drop at piece))) ≡ counted end
-      → counted (next + length (answersWithin (r .line) (drop (at + r .used) piece))) ≡ counted end
+  pub counts-to : (put end : ℕ) {given next : ℕ} → next ≡ capped (put + given) → given ≡ r .put
+      → capped (put + length (answersWithin line (drop at piece))) ≡ capped end
+      → capped (next + length (answersWithin (r .line) (drop (at + r .used) piece))) ≡ capped end
   counts-to put end n g e =
       omega (
         arith,
@@ -60,10 +60,10 @@ module _ (piece : List ℕ) (at : ℕ) {line : Line} {room after : List ℕ} {r 
       )
 
 -- at the end of the piece all of it is taken
-pub all-taken : (piece : List ℕ) (at put : ℕ) {line last : Line} {taken : Bool} → lineAfter last (drop at piece) ≡ lineAfter line piece
-    → counted (put + length (answersWithin last (drop at piece))) ≡ counted (length (answersWithin line piece)) → length piece ≤ at
-    → put ≡ counted put → PrintPiecePromise line piece (record { line = last; put = put; taken = taken })
-all-taken piece at put {line} {last} {taken} e f h k =
+pub all-taken : (piece : List ℕ) (at put : ℕ) {line last : Line} {written : Bool} → lineAfter last (drop at piece) ≡ lineAfter line piece
+    → capped (put + length (answersWithin last (drop at piece))) ≡ capped (length (answersWithin line piece)) → length piece ≤ at
+    → put ≡ capped put → PrintPiecePromise line piece (record { line = last; put = put; written = written })
+all-taken piece at put {line} {last} {written} e f h k =
     let nothing = ap (λ (l : List ℕ). length (answersWithin last l)) (drop-of-length-le piece h) ∙ ap length (within-none last) in
     record {
       answer = sym (after-none last) ∙ ap (lineAfter last) (sym (drop-of-length-le piece h)) ∙ e;

@@ -1,5 +1,5 @@
 -- What each call that prints promises. What is written to standard output is beyond a contract of this kit; how much was handed
--- over, and the line that is left, are not. Whether standard output took the bytes is for the system to say: `taken` is left open.
+-- over, and the line that is left, are not. Whether standard output took the bytes is for the system to say: `written` is left open.
 -- Assumes nothing.
 use mathlib.Core.Path.{_≡_}
 use mathlib.Core.List.{List}
@@ -13,8 +13,8 @@ use Rattle.lines.specs.Running.{lastAnswer}
 use Rattle.lines.specs.After.{lineAfter, answersWithin}
 
 -- a count of bytes, up to the greatest number that can be answered, 2 ^ 64 - 1; no piece that a memory holds comes near it
-abbrev pub counted : ℕ → ℕ
-counted n = min n 18446744073709551615
+abbrev pub capped : ℕ → ℕ
+capped n = min n 18446744073709551615
 
 -- `print_header` hands over all of the header; whether it was taken is left open
 pub record PrintHeaderPromise (r : Output) : Type 0 where
@@ -24,7 +24,7 @@ pub record PrintHeaderPromise (r : Output) : Type 0 where
 -- whether standard output took them is left open
 pub record PrintPiecePromise (line : Line) (piece : List ℕ) (r : Printed) : Type 0 where
   pub answer : r .line ≡ lineAfter line piece
-  pub count : r .put ≡ counted (length (answersWithin line piece))
+  pub count : r .put ≡ capped (length (answersWithin line piece))
 
 -- `print_last` hands over all of the answer of a line that has any bytes, and nothing for one that has none
 pub record PrintLastPromise (line : Line) (r : ℕ) : Type 0 where

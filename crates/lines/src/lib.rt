@@ -137,7 +137,7 @@ pub fn run(line: Line, input: &[u8], room: &mut [u8]) -> Ran
 // What was handed to standard output: how many bytes, and whether it took them all.
 pub struct Output {
     pub put: usize,
-    pub taken: bool,
+    pub written: bool,
 }
 
 // What printing a piece answers: the line that does not end in it, how many bytes the answers of those that do have, and whether
@@ -145,5 +145,5 @@ pub struct Output {
 pub struct Printed {
     pub line: Line,
     pub put: usize,
-    pub taken: bool,
+    pub written: bool,
 }

@@ -5,7 +5,7 @@ ghost use mathlib.Core.Path.{_≡_};
 ghost use Prim.Native.Nat.{_+_, _≤_};
 ghost use lib.ListN.{length};
 ghost use Rattle.lines.specs.Meaning.{enough};
-ghost use Rattle.lines.specs.Printing.{PrintHeaderPromise, PrintLastPromise, PrintPiecePromise, counted};
+ghost use Rattle.lines.specs.Printing.{PrintHeaderPromise, PrintLastPromise, PrintPiecePromise, capped};
 use crate::Line;
 use crate::Output;
 use crate::Printed;
@@ -53,25 +53,25 @@ fn print_runs(line: Line, piece: &[u8], room: &mut [u8]) -> Printed
     let mut current = line;
     let mut at = 0;
     let mut put = 0;
-    let mut taken = true;
+    let mut written = true;
     while at < piece.len() {
         let ran = run(current, &piece[at..], room);
-        let given = handed(taken, room, ran.put);
+        let given = handed(written, room, ran.put);
         put = with_more(put, given.put);
         current = ran.line;
-        taken = given.taken;
+        written = given.written;
         at += ran.used;
     }
     Printed {
         line: current,
         put,
-        taken,
+        written,
     }
 }
 
 // A count with so many more, up to the greatest number.
 fn with_more(count: usize, more: usize) -> usize
-    ensures { λ r. ⌜ r ≡ counted (count + more) ⌝ }
+    ensures { λ r. ⌜ r ≡ capped (count + more) ⌝ }
 {
     if usize::MAX - count < more {
         usize::MAX
@@ -80,11 +80,14 @@ fn with_more(count: usize, more: usize) -> usize
     }
 }
 
-// Hands the bytes at the front of a room over, where all so far was taken; how many they are, and whether all is taken now.
+// Hands the bytes at the front of a room over, where all so far was written; how many they are, and whether all is written now.
 fn handed(so_far: bool, room: &[u8], count: usize) -> Output
     requires { ⌜ count ≤ length (now room) ⌝ }
     ensures { λ r. ⌜ r .put ≡ count ⌝ }
 {
-    let taken = so_far && io::write_all(STDOUT_FILENO, &room[..count]);
-    Output { put: count, taken }
+    let written = so_far && io::write_all(STDOUT_FILENO, &room[..count]);
+    Output {
+        put: count,
+        written,
+    }
 }

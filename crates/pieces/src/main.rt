@@ -5,7 +5,7 @@ use libc::STDIN_FILENO;
 fn main() {
     let mut input = [0u8; 61];
     let header = lines::print_header();
-    if header.taken {
+    if header.written {
         print_lines(&mut input);
     }
 }
@@ -18,7 +18,7 @@ fn print_lines(input: &mut [u8]) {
     let mut got = io::read_full(STDIN_FILENO, input);
     while turns > 0 && got > 0 {
         let printed = lines::print_piece(line, &input[..got]);
-        if !printed.taken {
+        if !printed.written {
             return;
         }
         line = printed.line;

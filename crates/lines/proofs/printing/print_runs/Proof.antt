@@ -8,18 +8,18 @@ use borrow.Author.Needs.{needs}
 use lib.ListN.{length, drop}
 use Rattle.lines.specs.Moving.{run-put}
 use Rattle.lines.specs.After.{lineAfter, answersWithin}
-use Rattle.lines.specs.Printing.{counted}
+use Rattle.lines.specs.Printing.{capped}
 use Rattle.lines.proofs.printing.print_runs.Statement.{statement}
 use Rattle.lines.proofs.printing.print_runs.Tie as tie
 
 abbrev Inv-loop : tie.InvT-loop
-Inv-loop piece room₀ current₀ at₀ put₀ taken₀ room current at put taken = (at ≤ length piece) × (length room ≡ length room₀) ×
+Inv-loop piece room₀ current₀ at₀ put₀ written₀ room current at put written = (at ≤ length piece) × (length room ≡ length room₀) ×
     (lineAfter current (drop at piece) ≡ lineAfter current₀ piece) ×
-    (counted (put + length (answersWithin current (drop at piece))) ≡ counted (length (answersWithin current₀ piece))) ×
-    (put ≡ counted put)
+    (capped (put + length (answersWithin current (drop at piece))) ≡ capped (length (answersWithin current₀ piece))) ×
+    (put ≡ capped put)
 
 abbrev μ-loop : tie.MeasureT-loop
-μ-loop piece room₀ current₀ at₀ put₀ taken₀ room current at put taken = length piece - at
+μ-loop piece room₀ current₀ at₀ put₀ written₀ room current at put written = length piece - at
 
 handed-requires : tie.Need-handed-requires Inv-loop μ-loop
 handed-requires c κs = let inside = run-put (c .before .before .before .run .ensures) in search needs
