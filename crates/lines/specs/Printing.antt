@@ -20,8 +20,7 @@ capped n = min n 18446744073709551615
 pub record PrintHeaderPromise (r : Output) : Type 0 where
   pub answer : r .put ≡ length header
 
--- `print_piece` gives what is known after all bytes of the piece, and how many bytes the answers of the lines that end in it have;
--- whether standard output took them is left open
+-- `print_piece` gives what is known after all bytes of the piece, and how many bytes its answers have; whether they were taken is left open
 pub record PrintPiecePromise (line : Line) (piece : List ℕ) (r : Printed) : Type 0 where
   pub answer : r .line ≡ lineAfter line piece
   pub count : r .put ≡ capped (length (answersWithin line piece))

@@ -134,14 +134,13 @@ pub fn run(line: Line, input: &[u8], room: &mut [u8]) -> Ran
     }
 }
 
-// What was handed to standard output: how many bytes, and whether it took them all.
+// What was meant for standard output: how many bytes, and whether it took them all.
 pub struct Output {
     pub put: usize,
     pub written: bool,
 }
 
-// What printing a piece answers: the line that does not end in it, how many bytes the answers of those that do have, and whether
-// standard output took them all.
+// What printing a piece answers: the line that does not end in it, how many bytes its answers have, and whether all were taken.
 pub struct Printed {
     pub line: Line,
     pub put: usize,

@@ -23,7 +23,7 @@ pub fn print_header() -> Output
     handed(true, &room, put)
 }
 
-// Prints the answers of the lines that end in a piece of the input, and gives the line that does not.
+// Prints the answers of the lines that end in a piece of the input, as long as they are taken, and gives the line that does not.
 pub fn print_piece(line: Line, piece: &[u8]) -> Printed
     ensures { λ r. ⌜ PrintPiecePromise line (now (piece .entry)) r ⌝ }
 {
