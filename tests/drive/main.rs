@@ -86,6 +86,7 @@ fn main() {
     let mut random = Random::new(seed.parse().expect("the seed is a number"));
     let cases = cases.parse().expect("the number of cases is a number");
     let mut tally = Tally::default();
+    assert_eq!(unsafe { raw::plv_version() }, raw::VERSION, "the library is of another version");
     match family.as_str() {
         "packets" => packets::drive(&mut random, cases, &mut tally),
         "messages" => messages::drive(&mut random, cases, &mut tally),

@@ -218,7 +218,12 @@ impl Script {
     pub fn increments(&mut self, tally: &mut Tally, random: &mut Random) {
         let before = self.plain.clone();
         let n = self.words / 2;
-        let addresses: Vec<u32> = (0..random.below(12)).map(|_| random.below((n + random.below(9) / 8).max(1)) as u32).collect();
+        let count = random.below(12);
+        let mut address = || {
+            let end = n + random.below(9) / 8;
+            random.below(end.max(1)) as u32
+        };
+        let addresses: Vec<u32> = (0..count).map(|_| address()).collect();
         let held = random.next();
         let (got, wanted) = (increments(&mut self.proved, &addresses, held), increments_plain(&mut self.plain, &addresses, held));
         tally.answered(if got.0 == 0 { "increments ended" } else { "increments" }, if got.0 == 0 { got.2 } else { got.0 });
