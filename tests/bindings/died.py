@@ -5,26 +5,34 @@ import sys
 import tempfile
 
 import plavotesk
-from plavotesk import BoardDamaged, BoardFile, BoardInUse, Window, boardfile
+from plavotesk import BoardDamaged, BoardFile, BoardInterrupted, BoardInUse, Window, boardfile
 
 COUNTERS = 8
-PARTICLES = 24
+PARTICLES = 10
 ALL = Window(0, COUNTERS - 1, 0, 0, True)
 
 
 def filed(sheet):
-    """The sums of a sheet by their ask: a line each, a torn last one left out."""
-    lines = sheet.read_text().split('\n')[:-1] if sheet.exists() else []
+    """The sums of a sheet by their ask: a line each."""
+    lines = sheet.read_text().splitlines() if sheet.exists() else []
     return {int(number): int(total) for number, total in (line.split() for line in lines)}
 
 
-def file_it(sheet, ask):
+def put(sheet, text):
+    """The sheet in its place, whole: a bench that dies as it writes leaves the one before."""
+    new = sheet.with_suffix('.new')
+    file = boardfile.os.open(new, os.O_WRONLY | os.O_CREAT | os.O_TRUNC)
+    boardfile.os.write(file, text.encode())
+    boardfile.os.fsync(file)
+    os.close(file)
+    boardfile.os.replace(new, sheet)
+
+
+def file_it(sheet, asked):
     """Files the sum of an ask, once under its number, and then says so to the board."""
-    total = ask.answer().sum
-    if ask.number not in filed(sheet):
-        kept = ''.join(f'{number} {sum}\n' for number, sum in filed(sheet).items())
-        sheet.write_text(f'{kept}{ask.number} {total}\n')
-    ask.file()
+    with asked as ask:
+        sums = filed(sheet) | {ask.number: ask.answer().sum}
+        put(sheet, ''.join(f'{number} {total}\n' for number, total in sums.items()))
 
 
 def bench(folder):
@@ -44,7 +52,7 @@ def bench(folder):
 
 
 class Dying:
-    """The system calls of a board's file; at one step the bench dies: before it, half way through it, or after it."""
+    """The system calls of a board's file and of the sheet; at one step the bench dies: before it, half way through it, or after it."""
 
     def __init__(self, step, how):
         self.step, self.how, self.seen = step, how, 0
@@ -67,6 +75,9 @@ class Dying:
 
     def fsync(self, file):
         return self._dies(lambda: os.fsync(file), lambda: None)
+
+    def replace(self, old, new):
+        return self._dies(lambda: os.replace(old, new), lambda: None)
 
 
 def lives(folder, step, how):
@@ -144,5 +155,87 @@ def cut_and_damaged():
     print('a file cut at every length goes on; one damaged at any byte before its last record is refused')
 
 
+class Interrupting:
+    """The system calls of a board's file; an interrupt comes at one step, before it or after it."""
+
+    def __init__(self, step, how):
+        self.step, self.how, self.seen = step, how, 0
+
+    def __getattr__(self, name):
+        return getattr(os, name)
+
+    def write(self, file, text):
+        self.seen += 1
+        if self.seen == self.step and self.how == 'before':
+            raise KeyboardInterrupt
+        done = os.write(file, text if self.seen != self.step or self.how == 'after' else text[:len(text) // 2])
+        if self.seen == self.step:
+            raise KeyboardInterrupt
+        return done
+
+
+def interrupted():
+    """An interrupt between a record and its call: the board takes no call, and opened again it is where the file is."""
+    for how in ('before', 'half', 'after'):
+        with tempfile.TemporaryDirectory() as name:
+            path = pathlib.Path(name) / 'board'
+            board = BoardFile(path, COUNTERS)
+            board.increments([1, 2])
+            board.flip()
+            ask = board.ask(ALL)
+            boardfile.os = Interrupting(1, how)
+            try:
+                ask.answer()
+                raise AssertionError('no interrupt')
+            except KeyboardInterrupt:
+                pass
+            finally:
+                boardfile.os = os
+            for call in (ask.answer, board.flip, lambda: board.increment(1), lambda: board.increments([1]), ask.give_up):
+                try:
+                    call()
+                    raise AssertionError('a call on a board that is behind its file')
+                except BoardInterrupted:
+                    pass
+            board.close()
+            with BoardFile(path) as board:
+                assert board.open_ask.answer() == (2, how == 'after'), how
+                board.open_ask.file()
+                assert sum(board.memory) == 0
+    print('an interrupt between a record and its call: opened again, every count is filed once')
+
+
+def forked():
+    """A process that was forked from a bench makes no call on its board."""
+    with tempfile.TemporaryDirectory() as name, BoardFile(pathlib.Path(name) / 'board', COUNTERS) as board:
+        child = os.fork()
+        if child == 0:
+            try:
+                board.increment(1)
+            except BoardInUse:
+                os._exit(0)
+            os._exit(1)
+        assert os.waitstatus_to_exitcode(os.waitpid(child, 0)[1]) == 0
+        board.increment(1)
+        assert sum(board.memory) == 1
+
+
+def unknown():
+    """A record of a kind that this version does not know: the file is refused and left."""
+    with tempfile.TemporaryDirectory() as name:
+        path = pathlib.Path(name) / 'board'
+        BoardFile(path, COUNTERS).close()
+        text = path.read_bytes() + boardfile._record(b'Z', b'later')
+        path.write_bytes(text)
+        try:
+            BoardFile(path)
+            raise AssertionError('a record that nobody knows')
+        except BoardDamaged:
+            assert path.read_bytes() == text
+
+
 died()
 cut_and_damaged()
+interrupted()
+forked()
+unknown()

@@ -84,6 +84,8 @@ def numbers():
     for address in (8, 2 ** 32, 2 ** 80, -1):
         refused(14, lambda: board.increment(address))
     assert board.increments([1, 2, 2 ** 80, 3]) == (2, 14)
+    assert board.increments(address for address in (1, 2, 2 ** 80, 3)) == (2, 14)
+    assert board.increments((1, -1)) == (1, 14)
     assert board.increments([]) == (0, 0)
     for number in (2, 65536, -1):
         refused(17, lambda: board.ask_numbered(number, ALL))
@@ -98,7 +100,9 @@ def numbers():
     for wrong in (1.0, '1', None, b'1'):
         raises(TypeError, 'level must be', lambda: plavotesk.level_seconds(wrong))
         raises(TypeError, 'address must be', lambda: board.increment(wrong))
+        raises(TypeError, 'address must be', lambda: board.increments([1, wrong]))
         raises(TypeError, 'xsize must be', lambda: board.ask(ALL._replace(xsize=wrong)))
+        raises(TypeError, 'clear must be', lambda: board.ask(ALL._replace(clear=wrong)))
     raises(TypeError, 'capture must be', lambda: plavotesk.packet_find('text'))
     raises(TypeError, 'buffer must be', lambda: plavotesk.packet_write(b'no bytearray', 1, b''))
 
@@ -169,6 +173,12 @@ def dear_mistake():
     with board.open_ask as ask:
         assert ask.answer() == (300, True)
     assert board.open_ask is None and board.next_number == 2
+    ask = board.ask(ALL)
+    assert board.ask_numbered(2, ALL) == (0, False) == board.ask_numbered(3, ALL)
+    refused(17, ask.answer)
+    assert board.open_ask is ask
+    ask.give_up()
+    assert board.open_ask is None
 
 
 for check in (threads, numbers, buffers, iterators, copies, dear_mistake):

@@ -10,7 +10,7 @@ The shared library is looked for at PLAVOTESK_LIBRARY, beside this package, and 
 """
 from ._library import VERSION
 from .board import STATE_WORDS, Ask, AskStillOpen, Fed, Histogram, Sum, Window
-from .boardfile import BoardDamaged, BoardFile, BoardInUse
+from .boardfile import BoardDamaged, BoardFile, BoardInterrupted, BoardInUse
 from .calls import *
 from .calls import Found, Header, Message, Packet, Rate, Reading
 from .refusals import *

@@ -4,9 +4,11 @@ An ask is made once, with its number and its window. It is tried as often as the
 filed or given up, the board makes no other: so an answer that was lost cannot be filed as 0.
 
     with board.ask(window) as ask:
-        filed = over_the_link(ask.answer)       # again and again, as often as it times out
+        total = over_the_link(ask.answer).sum   # again and again, as often as it times out
+        sheet[ask.number] = total               # onto the sheet under the ask's number, before the block is left
 
-Leaving the block files the ask; leaving it by an exception keeps it open, and `board.open_ask` is where to go on.
+Leaving the block says that the sum is on the sheet, and the board may make the next ask; leaving it by an exception keeps the ask open, and
+`board.open_ask` is where to go on.
 
 Calls on one board go one after the other, whatever thread they come from. A board cannot be copied or pickled: two of them would file one
 count twice.
@@ -17,11 +19,11 @@ import array
 import ctypes
 import struct
 import threading
-from typing import Any, Iterable, NamedTuple
+from typing import Any, ContextManager, Iterable, NamedTuple
 
 from ._lent import Lent, whole, within
 from ._library import library
-from .refusals import AskOutOfTurn, Refusal, WrongMemory, accepted
+from .refusals import AskOutOfTurn, WordAboveFull, WrongAddress, WrongMemory, accepted
 
 _ASK = struct.Struct('<HIBBHB')
 
@@ -45,7 +47,18 @@ def _window(window: Any) -> Window:
     said = Window(*window)
     sizes = [whole(name, size) for name, size in zip(Window._fields, said[:4])]
     fit = all(0 <= size < 1 << bits for size, bits in zip(sizes, (32, 8, 8, 16)))
-    return Window(*(sizes if fit else (0xffffffff, 0, 0, 0)), bool(said.clear))
+    return Window(*(sizes if fit else (0xffffffff, 0, 0, 0)), whole('clear', said.clear) != 0)
+
+
+def _addresses(addresses: Iterable[int]) -> array.array:
+    """Addresses as the library takes them; what no address can be becomes the largest, which no memory has."""
+    if isinstance(addresses, array.array) and addresses.typecode == 'I':
+        return addresses
+    said = list(addresses)
+    try:
+        return array.array('I', said)
+    except (OverflowError, TypeError):
+        return array.array('I', [within('address', address, 32) for address in said])
 
 
 class Sum(NamedTuple):
@@ -77,17 +90,17 @@ class Ask:
         return f'<ask {self.number} of {self.window}>'
 
     def answer(self) -> Sum:
-        """One try: the sum. Every further try answers the same sum, as again, and changes nothing. Refusals 14, 16, which cleared nothing
-        and end the ask."""
+        """One try: the sum. Every further try answers the same sum, as again, and changes nothing. Refusals 14 and 16, which cleared nothing
+        and end the ask; 18 or 17 where another ask was numbered by hand since, which leave it open, to be given up."""
         try:
             self._answered = self._board.ask_numbered(self.number, self.window)
-        except Refusal:
+        except (WrongAddress, WordAboveFull):
             self._board._done(self)
             raise
         return self._answered
 
     def file(self) -> int:
-        """The sum, to be filed; the ask is done, and the board may make the next one. Tries it where no try came through."""
+        """The sum, which is on the sheet: the ask is done, and the board may make the next one. Tries it where no try came through."""
         filed = (self._answered or self.answer()).sum
         self._board._done(self)
         return filed
@@ -136,30 +149,26 @@ class Histogram:
     def increment(self, address: int) -> None:
         """A particle: adds 1 to a counter of the active page. Refusals 14, 16, 15."""
         address = within('address', address, 32)
-        with self._lock:
-            self._write_down(b'I', struct.pack('<I', address), flush=False)
-            accepted(library().plv_histogram_increment(*self._slices, address))
+        with self._written_down(b'I', struct.pack('<I', address), flush=False):
+            number = library().plv_histogram_increment(*self._slices, address)
+        accepted(number)
 
     def increments(self, addresses: Iterable[int]) -> Fed:
         """Many particles, one after the other, up to the first that would be refused: how many were counted, and the number by which it ended
         (0 where all were). An `array.array('I')` is lent as it is."""
-        if not (isinstance(addresses, array.array) and addresses.typecode == 'I'):
-            try:
-                addresses = array.array('I', addresses)
-            except OverflowError:
-                addresses = array.array('I', (within('address', address, 32) for address in addresses))
+        run = _addresses(addresses)
         count, ended = ctypes.c_uint64(), ctypes.c_uint8()
-        kept = Lent('addresses', addresses)
-        with self._lock:
-            self._write_down(b'I', addresses.tobytes(), flush=False)
-            accepted(library().plv_histogram_increments(*self._slices, kept.address, len(addresses), count, ended))
+        kept = Lent('addresses', run)
+        with self._written_down(b'I', run.tobytes(), flush=False):
+            number = library().plv_histogram_increments(*self._slices, kept.address, len(run), count, ended)
+        accepted(number)
         return Fed(count.value, ended.value)
 
     def flip(self) -> None:
         """Exchanges the active page, where particles count, and the idle one, which is asked. Refuses nothing."""
-        with self._lock:
-            self._write_down(b'F')
-            accepted(library().plv_histogram_flip(*self._slices))
+        with self._written_down(b'F'):
+            number = library().plv_histogram_flip(*self._slices)
+        accepted(number)
 
     @property
     def next_number(self) -> int:
@@ -182,8 +191,8 @@ class Histogram:
                 raise AskStillOpen(f'{self._open!r} is still open, and its answer may have been lost: '
                                    f'answer it again (open_ask.answer), file it (open_ask.file), or give it up (open_ask.give_up)')
             made = Ask(self, self.next_number, _window(window))
-            self._write_down(b'M', _ASK.pack(made.number, *made.window))
-            self._open = made
+            with self._written_down(b'M', _ASK.pack(made.number, *made.window)):
+                self._open = made
             return made
 
     def ask_numbered(self, number: int, window: Window) -> Sum:
@@ -194,9 +203,9 @@ class Histogram:
         if not 0 <= number < 65536:
             raise AskOutOfTurn()
         total, again = ctypes.c_uint64(), ctypes.c_uint8()
-        with self._lock:
-            self._write_down(b'A', _ASK.pack(number, *window))
-            accepted(library().plv_histogram_ask(*self._slices, number, *window, total, again))
+        with self._written_down(b'A', _ASK.pack(number, *window)):
+            refused = library().plv_histogram_ask(*self._slices, number, *window, total, again)
+        accepted(refused)
         return Sum(total.value, again.value == 1)
 
     @property
@@ -209,8 +218,9 @@ class Histogram:
         """An ask is filed, given up or refused."""
         with self._lock:
             if self._open is ask:
-                self._write_down(b'D')
-                self._open = None
+                with self._written_down(b'D'):
+                    self._open = None
 
-    def _write_down(self, kind: bytes, said: bytes = b'', flush: bool = True) -> None:
-        """What is done before a call is made; a board that lives in a file writes it down there."""
+    def _written_down(self, kind: bytes, said: bytes = b'', flush: bool = True) -> ContextManager:
+        """Within it a call is made, alone; a board that lives in a file has written it down there before."""
+        return self._lock

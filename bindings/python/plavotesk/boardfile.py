@@ -6,12 +6,13 @@ not written down has cleared nothing.
 
     board = plavotesk.BoardFile('board-17.plv', 64)      # made, or gone on with
     if board.open_ask:                                   # the bench died between asking and filing
-        file(board.open_ask.answer().sum)
-        board.open_ask.file()
+        with board.open_ask as ask:
+            sheet[ask.number] = ask.answer().sum         # a sheet has one line an ask, under its number: filed twice is filed once
 
 A file is a mark and records. A record is its kind, the length of what follows, a checksum of these two, what follows, and a checksum of it.
 A torn last record is what a bench left that died as it wrote: nothing was answered by it, and it is dropped. A file that is damaged elsewhere
-is refused, and left as it is. One process at a time has a file, by a lock on it.
+is refused, and left as it is. One process at a time has a file, by a lock on it. A call that was interrupted after it was written down leaves
+the file ahead of the board, which then takes no call; open the file again, and the call is made.
 """
 from __future__ import annotations
 
@@ -31,6 +32,7 @@ from .refusals import Refusal
 _MARK = b'PLAVOTESK board 1\n'
 _HEAD = struct.Struct('<1sII')
 _SUM = struct.Struct('<I')
+_KINDS = b'S', b'I', b'F', b'M', b'A', b'D'
 _SNAPSHOT_AFTER = 1 << 22
 
 
@@ -40,6 +42,10 @@ class BoardDamaged(Exception):
 
 class BoardInUse(Exception):
     """Another process has the file."""
+
+
+class BoardInterrupted(Exception):
+    """An interrupt came between a call's record and the call: close the board and open its file again, which makes the call."""
 
 
 def _record(kind: bytes, said: bytes) -> bytes:
@@ -53,7 +59,7 @@ def _records(text: bytes, path: str) -> Iterator[tuple[bytes, bytes, int]]:
     at = len(_MARK)
     while at < len(text):
         head = text[at:at + _HEAD.size]
-        if len(head) < _HEAD.size or not any(text[at:]):
+        if len(head) < _HEAD.size or not any(head) and not any(text[at:]):
             return
         kind, length, check = _HEAD.unpack(head)
         if zlib.crc32(head[:5]) != check:
@@ -66,6 +72,8 @@ def _records(text: bytes, path: str) -> Iterator[tuple[bytes, bytes, int]]:
             if end == len(text):
                 return
             raise BoardDamaged(f'{path} is damaged at byte {at}: a record does not have its checksum')
+        if kind not in _KINDS:
+            raise BoardDamaged(f'{path} has a record of a kind at byte {at} that this version does not know')
         yield kind, said, end
         at = end
 
@@ -78,7 +86,9 @@ class BoardFile(Histogram):
         BoardDamaged where it cannot be read, ValueError where its counters are others than said."""
         self._path = os.path.abspath(os.fspath(path))
         self._file: int | None = None
+        self._process = os.getpid()
         self._since = 0
+        self._ahead = False
         self._playing = True
         try:
             if os.path.exists(self._path):
@@ -168,16 +178,28 @@ class BoardFile(Histogram):
                 with contextlib.suppress(Refusal):
                     self.ask_numbered(number, window)
 
-    def _write_down(self, kind: bytes, said: bytes = b'', flush: bool = True) -> None:
-        """Writes a call down, before it is made."""
-        if self._playing:
-            return
+    @contextlib.contextmanager
+    def _written_down(self, kind: bytes, said: bytes = b'', flush: bool = True) -> Iterator[None]:
+        """Writes a call down, and then it is made, alone. An interrupt between the two leaves the file ahead."""
+        with self._lock:
+            if not self._playing:
+                self._ready()
+                self._ahead = True
+                if self._since > _SNAPSHOT_AFTER:
+                    self._put(self._snapshot(), flush)
+                    self._since = 0
+                self._put(_record(kind, said), flush)
+            yield
+            self._ahead = False
+
+    def _ready(self) -> None:
+        """The board takes a call: its file is open, this process has it, and it says no more than was done."""
         if self._file is None:
             raise ValueError(f'the board of {self._path} is closed')
-        if self._since > _SNAPSHOT_AFTER:
-            self._put(self._snapshot(), flush)
-            self._since = 0
-        self._put(_record(kind, said), flush)
+        if self._process != os.getpid():
+            raise BoardInUse(f'the process that opened {self._path} has it, and this one was forked from it')
+        if self._ahead:
+            raise BoardInterrupted(f'a call was interrupted after it was written down in {self._path}: close the board and open it again')
 
     def _put(self, record: bytes, flush: bool) -> None:
         """Appends to the file; where it cannot be written the file is as it was, and the call is not made."""
@@ -190,6 +212,7 @@ class BoardFile(Histogram):
                 os.fsync(self._file)
         except OSError:
             os.ftruncate(self._file, end)
+            self._ahead = False
             raise
         self._since += len(record)
 
