@@ -55,7 +55,7 @@ enum plv_refusal {
 #define PLV_ANSWERS
 #endif
 
-/* The words of a refusal, as above; "accepted" for 0, and for what is no refusal. */
+/* The words of a refusal, as above; "accepted" for 0. */
 static inline const char *plv_refusal_words(uint8_t number) {
     static const char *const words[] = {
         "accepted",
@@ -80,7 +80,7 @@ static inline const char *plv_refusal_words(uint8_t number) {
         "second or level out of range",
         "no packet",
     };
-    return words[number < sizeof words / sizeof *words ? number : 0];
+    return number < sizeof words / sizeof *words ? words[number] : "no refusal of this version";
 }
 
 /* The version of the library that is linked: PLV_VERSION, where header and library belong together. */

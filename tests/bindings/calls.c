@@ -273,5 +273,5 @@ int main(void) {
     floats();
     cadence();
     histogram();
-    return 0;
+    return strcmp(plv_refusal_words(0), "accepted") != 0 || strcmp(plv_refusal_words(21), "no refusal of this version") != 0;
 }

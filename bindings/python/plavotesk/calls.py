@@ -127,7 +127,7 @@ def packet_write(buffer: Any, apid: int, data: Any) -> int:
 
 
 def message_read(given: Any) -> tuple[Message, int]:
-    """The message at the front of the bytes, and the bytes it used. Refusals 4, 5, 6, as document 01 orders them."""
+    """The message at the front of the bytes, and the bytes it used. Refusals: under 4 bytes 5, then 4, 5, 6."""
     start, length, _keep = lent('given', given)
     address, tag, value, used = _u16(), _u8(), _u64(), _u64()
     accepted(library().plv_message_read(start, length, address, tag, value, used))

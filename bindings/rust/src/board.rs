@@ -1,7 +1,7 @@
 //! Histogram memory with its state: a board's counters in two pages, and asks that are things.
 
 use crate::raw;
-use crate::refusal::{answer, Answer, Refusal};
+use crate::refusal::{answer, called, Answer, Refusal};
 use std::fmt;
 
 /// The counters that an ask sums: rows of xsize + 1 cells, ysize + 1 of them; a row begins ystride after the last cell of the row
@@ -111,7 +111,7 @@ impl Histogram {
         };
         let (mut memory, mut state) = (vec![0; words], [0; raw::STATE_WORDS]);
         // SAFETY: both slices are ours, and lent as they are.
-        let number = unsafe { raw::plv_histogram_open(memory.as_mut_ptr(), memory.len(), state.as_mut_ptr(), state.len()) };
+        let number = called(|| unsafe { raw::plv_histogram_open(memory.as_mut_ptr(), memory.len(), state.as_mut_ptr(), state.len()) });
         answer(number, Histogram { memory, state, open: None })
     }
 
@@ -119,16 +119,16 @@ impl Histogram {
     pub fn increment(&mut self, address: u32) -> Answer<()> {
         let (memory, state) = (&mut self.memory, &self.state);
         // SAFETY: both slices are ours, and lent as they are.
-        let number = unsafe { raw::plv_histogram_increment(memory.as_mut_ptr(), memory.len(), state.as_ptr(), state.len(), address) };
+        let number = called(|| unsafe { raw::plv_histogram_increment(memory.as_mut_ptr(), memory.len(), state.as_ptr(), state.len(), address) });
         answer(number, ())
     }
 
-    /// Many particles, one after the other, up to the first that would be refused.
+    /// Many particles, one after the other, up to the first that would be refused (by 14, 16 or 15: `ended`).
     pub fn increments(&mut self, addresses: &[u32]) -> Answer<Fed> {
         let (mut count, mut ended) = (0, 0);
         let (memory, state) = (&mut self.memory, &self.state);
         // SAFETY: the slices are lent as they are, and `addresses` is none of ours.
-        let number = unsafe {
+        let number = called(|| unsafe {
             raw::plv_histogram_increments(
                 memory.as_mut_ptr(),
                 memory.len(),
@@ -139,23 +139,23 @@ impl Histogram {
                 &mut count,
                 &mut ended,
             )
-        };
+        });
         answer(number, Fed { count, ended: Refusal::of(ended, None) })
     }
 
-    /// Exchanges the active page, where particles count, and the idle one, which is asked.
+    /// Exchanges the active page, where particles count, and the idle one, which is asked. Refuses nothing.
     pub fn flip(&mut self) -> Answer<()> {
         let (memory, state) = (&self.memory, &mut self.state);
         // SAFETY: both slices are ours, and lent as they are.
-        let number = unsafe { raw::plv_histogram_flip(memory.as_ptr(), memory.len(), state.as_mut_ptr(), state.len()) };
+        let number = called(|| unsafe { raw::plv_histogram_flip(memory.as_ptr(), memory.len(), state.as_mut_ptr(), state.len()) });
         answer(number, ())
     }
 
-    /// The number that the next new ask bears, read from the state.
+    /// The number that the next new ask bears, read from the state. Refuses nothing.
     pub fn next(&self) -> Answer<u16> {
         let mut number = 0;
         // SAFETY: the state is ours, and lent as it is.
-        let refused = unsafe { raw::plv_histogram_next(self.state.as_ptr(), self.state.len(), &mut number) };
+        let refused = called(|| unsafe { raw::plv_histogram_next(self.state.as_ptr(), self.state.len(), &mut number) });
         answer(refused, number)
     }
 
@@ -174,17 +174,17 @@ impl Histogram {
         self.open.map(|(number, window)| Ask { number, window })
     }
 
-    /// One try of an ask: the sum. Every further try answers the same sum, as again, and changes nothing. Refusals 14, 16, which cleared
-    /// nothing and end the ask.
+    /// One try of an ask: the sum. Every further try answers the same sum, as again, and changes nothing. Refusals 14 and 16, which cleared
+    /// nothing and end the ask; 18 or 17 where another ask was numbered by hand since, which leave it open, to be given up.
     pub fn answer(&mut self, ask: &Ask) -> Answer<Sum> {
         let answered = self.ask_numbered(ask.number, ask.window);
-        if answered.is_err() {
+        if let Err(Refusal::WrongAddress | Refusal::WordAboveFull) = answered {
             self.close(ask);
         }
         answered
     }
 
-    /// The ask's sum is written down: the board may make the next one.
+    /// The ask's sum is on the sheet: the board may make the next one.
     pub fn file(&mut self, ask: Ask) {
         self.close(&ask);
     }
@@ -207,7 +207,7 @@ impl Histogram {
         let (mut sum, mut again) = (0, 0);
         let (memory, state) = (&mut self.memory, &mut self.state);
         // SAFETY: both slices are ours, and lent as they are; the places are ours.
-        let refused = unsafe {
+        let refused = called(|| unsafe {
             raw::plv_histogram_ask(
                 memory.as_mut_ptr(),
                 memory.len(),
@@ -222,7 +222,7 @@ impl Histogram {
                 &mut sum,
                 &mut again,
             )
-        };
+        });
         answer(refused, Sum { sum, again: again == 1 })
     }
 
@@ -232,8 +232,27 @@ impl Histogram {
     }
 
     /// All there is of a board: memory, state and the open ask, under a mark and a checksum. The rule for a bench that must be able to go
-    /// on after it died: write down the bytes first, answer afterwards. Bytes from before an ask that was answered since bring the dear
-    /// mistake back; keep the last ones only.
+    /// on after it died: write down the bytes first, answer afterwards, and put each sum onto the sheet under its ask's number. Bytes from
+    /// before an ask that was answered since bring the dear mistake back; keep the last ones only.
+    ///
+    /// ```
+    /// use plavotesk::{Histogram, Window};
+    /// use std::collections::BTreeMap;
+    /// let (mut board, mut sheet) = (Histogram::open(8).unwrap(), BTreeMap::new());
+    /// board.increments(&[1, 2, 2]).unwrap();
+    /// board.flip().unwrap();
+    /// let ask = board.ask(Window { address: 0, xsize: 7, ysize: 0, ystride: 0, clear: true }).unwrap();
+    /// let kept = board.to_bytes(); // written down before the ask is answered
+    /// sheet.insert(ask.number(), board.answer(&ask).unwrap().sum);
+    /// drop(board); // the bench died here, and starts again
+    ///
+    /// let mut board = Histogram::from_bytes(&kept).unwrap();
+    /// let ask = board.open_ask().unwrap();
+    /// sheet.insert(ask.number(), board.answer(&ask).unwrap().sum);
+    /// board.file(ask);
+    /// assert_eq!((sheet.values().sum::<u64>(), board.open_ask()), (3, None)); // every count is filed once
+    /// ```
+    #[must_use]
     pub fn to_bytes(&self) -> Vec<u8> {
         let mut bytes = MARK.to_vec();
         bytes.extend((self.memory.len() as u32).to_le_bytes());

@@ -26,12 +26,13 @@ mod refusal;
 pub use board::{Ask, Fed, Histogram, NotABoard, StillOpen, Sum, Window};
 pub use refusal::{Answer, Refusal};
 
-use refusal::answer;
+use refusal::{answer, called};
 
-/// The checksum of bytes.
+/// The checksum of bytes. Refuses nothing.
+#[must_use]
 pub fn checksum(bytes: &[u8]) -> u16 {
     // SAFETY: what is lent is lent as it is; the places are ours.
-    unsafe { raw::plv_checksum(bytes.as_ptr(), bytes.len()) }
+    called(|| unsafe { raw::plv_checksum(bytes.as_ptr(), bytes.len()) })
 }
 
 /// The first packet's place and the bytes skipped before it.
@@ -42,11 +43,10 @@ pub struct Found {
 }
 
 /// The first place where a packet stands (mark, length and checksum agree). Refusals 1; 20, which carries the bytes skipped.
-#[must_use = "a refusal is an answer too"]
 pub fn packet_find(capture: &[u8]) -> Answer<Found> {
     let (mut place, mut skipped) = (0, 0);
     // SAFETY: what is lent is lent as it is; the places are ours.
-    let number = unsafe { raw::plv_packet_find(capture.as_ptr(), capture.len(), &mut place, &mut skipped) };
+    let number = called(|| unsafe { raw::plv_packet_find(capture.as_ptr(), capture.len(), &mut place, &mut skipped) });
     match Refusal::of(number, Some(skipped)) {
         None => Ok(Found { place: place as usize, skipped }),
         Some(refusal) => Err(refusal),
@@ -60,19 +60,20 @@ pub struct Header {
     pub length: u16,
 }
 
-/// The header of the packet at a place.
+/// The header of the packet at a place. Refusals 1, 20.
 pub fn packet_header(capture: &[u8], place: usize) -> Answer<Header> {
     let (mut apid, mut length) = (0, 0);
     // SAFETY: what is lent is lent as it is; the places are ours.
-    let number = unsafe { raw::plv_packet_header(capture.as_ptr(), capture.len(), place as u64, &mut apid, &mut length) };
+    let number = called(|| unsafe { raw::plv_packet_header(capture.as_ptr(), capture.len(), place as u64, &mut apid, &mut length) });
     answer(number, Header { apid, length })
 }
 
-/// The data of the packet at a place, as a part of the capture; an empty part where no packet stands.
+/// The data of the packet at a place, as a part of the capture; an empty part where no packet stands. Refuses nothing.
+#[must_use]
 pub fn packet_payload(capture: &[u8], place: usize) -> &[u8] {
     let (mut start, mut length) = (0, 0);
     // SAFETY: what is lent is lent as it is; the places are ours.
-    unsafe { raw::plv_packet_payload(capture.as_ptr(), capture.len(), place as u64, &mut start, &mut length) };
+    called(|| unsafe { raw::plv_packet_payload(capture.as_ptr(), capture.len(), place as u64, &mut start, &mut length) });
     &capture[start as usize..][..length as usize]
 }
 
@@ -108,13 +109,11 @@ pub fn packets(capture: &[u8]) -> Answer<impl Iterator<Item = Packet<'_>>> {
     }))
 }
 
-/// Writes a packet to the front of a buffer, and answers its bytes.
+/// Writes a packet to the front of a buffer, and answers its bytes. Refusals 2, 3.
 pub fn packet_write(buffer: &mut [u8], apid: u16, data: &[u8]) -> Answer<usize> {
     let mut written = 0;
     // SAFETY: what is lent is lent as it is; the places are ours.
-    let number = unsafe {
-        raw::plv_packet_write(buffer.as_mut_ptr(), buffer.len(), apid, data.as_ptr(), data.len(), &mut written)
-    };
+    let number = called(|| unsafe { raw::plv_packet_write(buffer.as_mut_ptr(), buffer.len(), apid, data.as_ptr(), data.len(), &mut written) });
     answer(number, written as usize)
 }
 
@@ -126,41 +125,39 @@ pub struct Message {
     pub value: u64,
 }
 
-/// The message at the front of the bytes, and the bytes it used.
+/// The message at the front of the bytes, and the bytes it used. Refusals: under 4 bytes 5, then
+/// 4, 5, 6.
 pub fn message_read(bytes: &[u8]) -> Answer<(Message, usize)> {
     let (mut address, mut tag, mut value, mut used) = (0, 0, 0, 0);
     // SAFETY: what is lent is lent as it is; the places are ours.
-    let number = unsafe {
-        raw::plv_message_read(bytes.as_ptr(), bytes.len(), &mut address, &mut tag, &mut value, &mut used)
-    };
+    let number = called(|| unsafe { raw::plv_message_read(bytes.as_ptr(), bytes.len(), &mut address, &mut tag, &mut value, &mut used) });
     answer(number, (Message { address, tag, value }, used as usize))
 }
 
-/// Writes a message to the front of a buffer, and answers its bytes.
+/// Writes a message to the front of a buffer, and answers its bytes. Refusals 7, 3.
 pub fn message_write(buffer: &mut [u8], message: Message) -> Answer<usize> {
     let mut written = 0;
     let Message { address, tag, value } = message;
     // SAFETY: what is lent is lent as it is; the places are ours.
-    let number = unsafe {
-        raw::plv_message_write(buffer.as_mut_ptr(), buffer.len(), address, tag, value, &mut written)
-    };
+    let number = called(|| unsafe { raw::plv_message_write(buffer.as_mut_ptr(), buffer.len(), address, tag, value, &mut written) });
     answer(number, written as usize)
 }
 
-/// Packs a number at a bit position, and answers the next position.
+/// Packs a number at a bit position, and answers the next position. Refusals 8, 3.
 pub fn code_pack(buffer: &mut [u8], at: u64, value: i32, drop: u8) -> Answer<u64> {
     let mut next = 0;
     // SAFETY: what is lent is lent as it is; the places are ours.
-    let number = unsafe { raw::plv_code_pack(buffer.as_mut_ptr(), buffer.len(), at, value, drop, &mut next) };
+    let number = called(|| unsafe { raw::plv_code_pack(buffer.as_mut_ptr(), buffer.len(), at, value, drop, &mut next) });
     answer(number, next)
 }
 
 /// The number that the code at a bit position decodes to, and the next position. It is not the count that went in: a code stands for a
 /// band of counts, which [`reading`] gives. Zeros that pad the last byte read as codes of 0: know how many codes there are.
+/// Refusals 8, 9, 10, 11.
 pub fn code_unpack(bytes: &[u8], at: u64, drop: u8) -> Answer<(i32, u64)> {
     let (mut value, mut next) = (0, 0);
     // SAFETY: what is lent is lent as it is; the places are ours.
-    let number = unsafe { raw::plv_code_unpack(bytes.as_ptr(), bytes.len(), at, drop, &mut value, &mut next) };
+    let number = called(|| unsafe { raw::plv_code_unpack(bytes.as_ptr(), bytes.len(), at, drop, &mut value, &mut next) });
     answer(number, (value, next))
 }
 
@@ -171,13 +168,12 @@ pub enum Reading {
     Between(f64, f64),
 }
 
-/// The count at a bit position, and the next position.
+/// The count at a bit position, and the next position. Refusals 8, 9, 10, 11, and 8 for a negative
+/// number.
 pub fn reading(bytes: &[u8], at: u64, drop: u8) -> Answer<(Reading, u64)> {
     let (mut low, mut high, mut exact, mut next) = (0.0, 0.0, 0, 0);
     // SAFETY: what is lent is lent as it is; the places are ours.
-    let number = unsafe {
-        raw::plv_reading(bytes.as_ptr(), bytes.len(), at, drop, &mut low, &mut high, &mut exact, &mut next)
-    };
+    let number = called(|| unsafe { raw::plv_reading(bytes.as_ptr(), bytes.len(), at, drop, &mut low, &mut high, &mut exact, &mut next) });
     let reading = if exact == 1 { Reading::Exact(low) } else { Reading::Between(low, high) };
     answer(number, (reading, next))
 }
@@ -190,80 +186,81 @@ pub struct Rate {
     pub seconds: f64,
 }
 
-/// The count at a bit position as a rate over the seconds of a level, and the next position.
+/// The count at a bit position as a rate over the seconds of a level, and the next position. Refusals as of
+/// [`reading`], then 19.
 pub fn rate(bytes: &[u8], at: u64, drop: u8, level: u8) -> Answer<(Rate, u64)> {
     let (mut low, mut high, mut seconds, mut next) = (0.0, 0.0, 0.0, 0);
     // SAFETY: what is lent is lent as it is; the places are ours.
-    let number = unsafe {
-        raw::plv_rate(bytes.as_ptr(), bytes.len(), at, drop, level, &mut low, &mut high, &mut seconds, &mut next)
-    };
+    let number = called(|| unsafe { raw::plv_rate(bytes.as_ptr(), bytes.len(), at, drop, level, &mut low, &mut high, &mut seconds, &mut next) });
     answer(number, (Rate { low, high, seconds }, next))
 }
 
-/// The 16-bit float of a count.
+/// The 16-bit float of a count. Refusal 12.
 pub fn float16_code(count: u64) -> Answer<u16> {
     let mut code = 0;
     // SAFETY: what is lent is lent as it is; the places are ours.
-    let number = unsafe { raw::plv_float16_code(count, &mut code) };
+    let number = called(|| unsafe { raw::plv_float16_code(count, &mut code) });
     answer(number, code)
 }
 
-/// The count that a 16-bit float means.
+/// The count that a 16-bit float means. Refuses nothing.
+#[must_use]
 pub fn float16_count(code: u16) -> u64 {
     // SAFETY: what is lent is lent as it is; the places are ours.
-    unsafe { raw::plv_float16_count(code) }
+    called(|| unsafe { raw::plv_float16_count(code) })
 }
 
-/// The 8-bit float of a count.
+/// The 8-bit float of a count. Refusal 12.
 pub fn float8_code(count: u64) -> Answer<u8> {
     let mut code = 0;
     // SAFETY: what is lent is lent as it is; the places are ours.
-    let number = unsafe { raw::plv_float8_code(count, &mut code) };
+    let number = called(|| unsafe { raw::plv_float8_code(count, &mut code) });
     answer(number, code)
 }
 
-/// The count that an 8-bit float means.
+/// The count that an 8-bit float means. Refuses nothing.
+#[must_use]
 pub fn float8_count(code: u8) -> u64 {
     // SAFETY: what is lent is lent as it is; the places are ours.
-    unsafe { raw::plv_float8_count(code) }
+    called(|| unsafe { raw::plv_float8_count(code) })
 }
 
-/// The 24-bit integer of a count.
+/// The 24-bit integer of a count. Refusal 12.
 pub fn int24_code(count: u64) -> Answer<u32> {
     let mut code = 0;
     // SAFETY: what is lent is lent as it is; the places are ours.
-    let number = unsafe { raw::plv_int24_code(count, &mut code) };
+    let number = called(|| unsafe { raw::plv_int24_code(count, &mut code) });
     answer(number, code)
 }
 
-/// The count that a 24-bit integer means.
+/// The count that a 24-bit integer means. Refusal 12.
 pub fn int24_count(code: u32) -> Answer<u32> {
     let mut count = 0;
     // SAFETY: what is lent is lent as it is; the places are ours.
-    let number = unsafe { raw::plv_int24_count(code, &mut count) };
+    let number = called(|| unsafe { raw::plv_int24_count(code, &mut count) });
     answer(number, count)
 }
 
-/// The seconds that a level lasts.
+/// The seconds that a level lasts. Refusal 19.
 pub fn level_seconds(level: u8) -> Answer<u16> {
     let mut seconds = 0;
     // SAFETY: what is lent is lent as it is; the places are ours.
-    let number = unsafe { raw::plv_level_seconds(level, &mut seconds) };
+    let number = called(|| unsafe { raw::plv_level_seconds(level, &mut seconds) });
     answer(number, seconds)
 }
 
-/// The level that begins in a second of the hour.
+/// The level that begins in a second of the hour. Refusal 19.
 pub fn second_beginning(second: u16) -> Answer<u8> {
     let mut level = 0;
     // SAFETY: what is lent is lent as it is; the places are ours.
-    let number = unsafe { raw::plv_second_beginning(second, &mut level) };
+    let number = called(|| unsafe { raw::plv_second_beginning(second, &mut level) });
     answer(number, level)
 }
 
-/// The level that ends in a second of the hour.
+/// The level that ends in a second of the hour. Refusal 19.
 pub fn second_ending(second: u16) -> Answer<u8> {
     let mut level = 0;
     // SAFETY: what is lent is lent as it is; the places are ours.
-    let number = unsafe { raw::plv_second_ending(second, &mut level) };
+    let number = called(|| unsafe { raw::plv_second_ending(second, &mut level) });
     answer(number, level)
 }

@@ -161,9 +161,14 @@ fn same_version() {
     });
 }
 
+/// Makes a call of the library, which must be of this version.
+pub(crate) fn called<T>(call: impl FnOnce() -> T) -> T {
+    same_version();
+    call()
+}
+
 /// The values where the number is 0, else the refusal.
 pub(crate) fn answer<T>(number: u8, values: T) -> Answer<T> {
-    same_version();
     match Refusal::of(number, None) {
         None => Ok(values),
         Some(refusal) => Err(refusal),
