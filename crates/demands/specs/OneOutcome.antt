@@ -27,8 +27,9 @@ pub use Rattle.rate.specs.OneOutcome.{reading-one, rate-one, reading-number-one
 -- two pages of counters
 pub use Rattle.pages.specs.OneOutcome.{sized-one, clear-one, count-one, take-one}
 -- histogram memory
-pub use Rattle.histogram.specs.OneOutcome.{open-one, increment-one, increments-one, next-one, flip-one, ask-one}
-pub use Rattle.histogram.specs.OneOutcome.{open-number-one, increment-number-one, increments-number-one, next-number-one, flip-number-one, ask-number-one}
+pub use Rattle.state.specs.OneOutcome.{fitting-one, turn-one, next-one, next-number-one}
+pub use Rattle.histogram.specs.OneOutcome.{open-one, increment-one, increments-one, flip-one, ask-one}
+pub use Rattle.histogram.specs.OneOutcome.{open-number-one, increment-number-one, increments-number-one, flip-number-one, ask-number-one}
 -- the code program's lines
 pub use Rattle.lines.specs.OneOutcome.{fresh-one, with-byte-one, header-one as lines-header-one, put-answer-one, run-one}
 -- what the code program prints with

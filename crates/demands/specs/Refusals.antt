@@ -32,8 +32,9 @@ use Rattle.pages.specs.declared.Window.{Window}
 use Rattle.pages.specs.Answers.{countPaper, takenPaper}
 use Rattle.pages.specs.Outcomes.{count-stays, take-stays}
 use Rattle.pages.specs.Promise.{CountPromise, TakePromise}
+use Rattle.state.specs.Meaning.{nextMeans}
 use Rattle.histogram.specs.Feeding.{increments-stays}
-use Rattle.histogram.specs.Meaning.{CallOutcome, Fed, Lent, Value, incrementsMeans, lent, nextMeans, openMeans}
+use Rattle.histogram.specs.Meaning.{CallOutcome, Fed, Lent, Value, incrementsMeans, lent, openMeans}
 use Rattle.histogram.specs.Outcomes.{call-stays, open-stays}
 use Rattle.histogram.specs.Runs.{Call, increment, flip, ask, callMeans}
 use Rattle.plavotesk.specs.Meaning.{AskValues, Edges, Quotients, edgesOf, quotientsOf, toldAs, toldAsk, toldFound, toldWith}

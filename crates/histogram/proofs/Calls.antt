@@ -4,56 +4,27 @@ use mathlib.Core.Path.{_≡_, ap, ap₂, _∙_}
 use mathlib.Core.Bool.{Bool, true, false, not}
 use mathlib.Core.List.{List, _++_}
 use Prim.Native.Nat.{ℕ, _<_, _≤_}
-use lib.Dec.{eqb}
-use lib.ListN.{drop, getD, length, replicate, set}
-use borrow.Author.Tests.{eq-eqb, le-leb, lt-leb, ne-eqb}
+use lib.ListN.{drop, length, replicate, set}
+use borrow.Author.Tests.{le-leb, lt-leb}
 use Rattle.ground.specs.Outcome.{Outcome, outcomeOf, accept, refuse}
-use Rattle.ground.specs.Paper.{accepted, mapped, refused}
+use Rattle.ground.specs.Paper.{mapped, refused}
 use Rattle.pages.specs.Answers.{countPaper, takenPaper}
 use Rattle.pages.specs.Meaning.{sizedOf}
 use Rattle.pages.specs.Promise.{CountPromise, TakePromise}
 use Rattle.pages.specs.declared.CountAnswer.{CountAnswer}
 use Rattle.pages.specs.declared.Taken.{Taken}
 use Rattle.pages.specs.declared.Window.{Window}
+use Rattle.state.specs.Meaning.{fittingOf}
+use Rattle.state.specs.Turns.{turnOf}
+use Rattle.state.specs.Words.{flagOf, freshIn, keepIn, keptIn, pageIn, stateWords}
+use Rattle.state.specs.declared.Turn.{Turn}
 use Rattle.histogram.specs.Answers.{askPaper, incrementPaper, incrementsPaper}
-use Rattle.histogram.specs.Meaning.{Admits, CallOutcome, Lent, admission, admitted, askMeans, counting, done, fittingOf, flipMeans, incrementMeans}
-use Rattle.histogram.specs.Meaning.{feedOf, feeding, incrementsMeans, keeping, lent, newMeans, nextAfterLast, nextMeans, openMeans, taking, turnMeans}
+use Rattle.histogram.specs.Meaning.{Admits, CallOutcome, Lent, admission, admitted, askMeans, counting, done, flipMeans, incrementMeans}
+use Rattle.histogram.specs.Meaning.{feedOf, feeding, incrementsMeans, keeping, lent, newMeans, openMeans, taking, turnMeans}
 use Rattle.histogram.specs.Meaning.{again}
-use Rattle.histogram.specs.Turns.{turnOf}
-use Rattle.histogram.specs.Words.{flagOf, freshIn, keepIn, keptIn, pageIn, stateWords}
 use Rattle.histogram.specs.declared.AskAnswer.{AskAnswer}
 use Rattle.histogram.specs.declared.IncrementAnswer.{IncrementAnswer}
 use Rattle.histogram.specs.declared.IncrementsAnswer.{IncrementsAnswer}
-use Rattle.histogram.specs.declared.turn.Turn.{Turn}
-
-module _ (n : ℕ) (w : List ℕ) where
-  -- fewer words than a state takes fit no memory
-  pub fits-short : length w < stateWords → false ≡ fittingOf n w
-  fits-short h = rw (lt-leb stateWords (length w) h)
-
-  -- no memory has such a length
-  pub fits-odd : stateWords ≤ length w → sizedOf n ≡ false → false ≡ fittingOf n w
-  fits-odd h k = rw (le-leb stateWords (length w) h, k)
-
-  -- the test on 2N
-  pub fits-last : stateWords ≤ length w → sizedOf n ≡ true → eqb n (getD w 0 0) ≡ fittingOf n w
-  fits-last h k = rw (le-leb stateWords (length w) h, k)
-
-module _ (w : List ℕ) where
-  -- fewer words than a state takes have no next number
-  pub next-short : length w < stateWords → refused 13 ≡ nextMeans w
-  unfolding nextMeans
-  next-short h = rw (lt-leb stateWords (length w) h)
-
-  -- nothing is kept
-  pub next-first : stateWords ≤ length w → getD w 2 0 ≡ 0 → accepted 1 ≡ nextMeans w
-  unfolding nextMeans
-  next-first h e = rw (le-leb stateWords (length w) h, eq-eqb (getD w 2 0) 0 e)
-
-  -- an ask is kept
-  pub next-last : stateWords ≤ length w → (getD w 2 0 ≡ 0 → ⊥) → nextAfterLast (getD w 3 0) ≡ nextMeans w
-  unfolding nextMeans
-  next-last h n = rw (le-leb stateWords (length w) h, ne-eqb (getD w 2 0) 0 n)
 
 -- the state's words set to 0, and then 2N put into the first
 pub freshened : (w w₀ : List ℕ) (i n : ℕ) → w ≡ replicate i 0 ++ drop i w₀ → i ≡ stateWords → set w 0 n ≡ freshIn w₀ n

@@ -11,10 +11,10 @@ use Rattle.ground.specs.Outcome.{refuse}
 use Rattle.ground.specs.Paper.{accepted}
 use Rattle.pages.specs.Layout.{placeOf, within}
 use Rattle.pages.specs.Meaning.{Walk, cellsOf, visitOf, walkAt, walkOf, wordOf}
+use Rattle.state.specs.Words.{pageIn}
 use Rattle.histogram.specs.Meaning.{CallOutcome, done, lent, openMeans}
 use Rattle.histogram.specs.Outcomes.{call-elim, is-opened}
 use Rattle.histogram.specs.Runs.{Call, increment, flip, ask, Ledger, acceptedBy, callMeans, clearedBy, opening, run, step, total}
-use Rattle.histogram.specs.Words.{pageIn}
 
 -- a word replaced: the total changes by the difference
 pub total-set : (l : List ℕ) (i v : ℕ) → i < length l → total (set l i v) + getD l i 0 ≡ total l + v

@@ -6,23 +6,17 @@ use mathlib.Core.List.{List, [], _∷_, map}
 use Prim.Native.Nat.{ℕ, suc, _+_, _<_, _≤_, zero-le}
 use native.Mathlib.Nat.{add-zero}
 use native.Mathlib.Omega.{arith}
-use borrow.Author.Tests.{eq-eqb, ne-eqb, eqb-true}
-use lib.Dec.{eqb, leb}
 use lib.ListN.{length, take, getD}
-use Rattle.ground.specs.Choice.{pick-elim}
 use Rattle.ground.specs.Outcome.{Outcome, Stays, refuse}
-use Rattle.ground.specs.Paper.{Paper, accepted, refusal, refused, mapped, numberOf, refused-not, accepted-same}
+use Rattle.ground.specs.Paper.{Paper, accepted, refusal, refused, mapped, numberOf, refused-not}
 use Rattle.pages.specs.Meaning.{countMeans}
 use Rattle.pages.specs.Outcomes.{count-elim}
-use Rattle.pages.specs.declared.Window.{Window}
+use Rattle.state.specs.Words.{pageIn}
 use Rattle.histogram.specs.Meaning.{Admits, CallOutcome, Fed, Lent, counting, done, feedOf, feeding, goesOn, incrementMeans, incrementsMeans}
-use Rattle.histogram.specs.Meaning.{lent, nextAfter}
+use Rattle.histogram.specs.Meaning.{lent}
 use Rattle.histogram.specs.Runs.{Call, increment, flip, ask, Ledger, NoNew, acceptedBy, answered, callMeans, isNew, run, step}
 use Rattle.histogram.specs.Outcomes.{admitted-elim, call-elim}
 use Rattle.histogram.specs.Stays.{call-admits}
-use Rattle.histogram.specs.Turns.{nextOf, turnOf}
-use Rattle.histogram.specs.declared.turn.Turn.the-variants.{NewAsk}
-use Rattle.histogram.specs.Words.{Kept, Last, Nothing, pageIn}
 
 -- what a run of increments from a ledger leaves: the first so many, one by one, all of them accepted; it ended at the address that would be refused
 -- next, by that refusal's number, or with the last
@@ -188,15 +182,3 @@ increment-old m w a =
 pub run-old : (l : Ledger) (addresses : List ℕ) → NoNew l (map increment addresses)
 run-old l [] = tt
 run-old l (a ∷ rest) = (increment-old (l .memory) (l .state) a, run-old (step l (increment a)) rest)
-
--- the number of the next ask is the turn of a new one, whatever its window
-pub next-is-new : (kept : Kept) (n : ℕ) (v : Window) → nextAfter kept ≡ accepted n → turnOf kept n v ≡ NewAsk
-next-is-new Nothing n v e = let same : 1 ≡ n = accepted-same e in rw (eq-eqb n 1 (sym same))
-next-is-new (Last k w sum) n v e =
-    pick-elim (λ (p : Paper ℕ). p ≡ accepted n → turnOf (Last k w sum) n v ≡ NewAsk) (leb k 65535) (accepted (nextOf k)) (refused 13)
-    (λ h q. let same : nextOf k ≡ n = accepted-same q in rw (ne-eqb n k (λ z. other k (same ∙ z)), eq-eqb n (nextOf k) (sym same)))
-    (λ h q. absurd (refused-not q))
-    e
-  where
-    other : (k : ℕ) → nextOf k ≡ k → ⊥
-    other k = pick-elim (λ (m : ℕ). m ≡ k → ⊥) (eqb k 65535) 0 (k + 1) (λ h q. omega (arith, eqb-true k 65535 h)) (λ h q. omega arith)

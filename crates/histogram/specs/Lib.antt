@@ -1,5 +1,3 @@
-pub mod Words
-pub mod Turns
 pub mod Meaning
 pub mod Answers
 pub mod Promise

@@ -4,17 +4,17 @@ use mathlib.Core.Bool.{Bool, not, _&&_}
 use mathlib.Core.List.{List, [], _∷_}
 use mathlib.Core.Path.{_≡_}
 use Prim.Native.Nat.{ℕ, suc}
-use lib.Dec.{eqb, leb}
-use lib.ListN.{getD, length, replicate}
+use lib.ListN.{length, replicate}
 use Rattle.ground.specs.Choice.{pick}
 use Rattle.ground.specs.Outcome.{Outcome, outcomeOf, accept, refuse, onwardTo}
 use Rattle.ground.specs.Paper.{Paper, accepted, refusal, refused, mapped}
 use Rattle.pages.specs.Meaning.{countMeans, sizedOf, takeMeans}
 use Rattle.pages.specs.declared.Window.{Window}
-use Rattle.histogram.specs.Turns.{nextOf, turnOf}
-use Rattle.histogram.specs.Words.{Kept, Last, Nothing, flipIn, freshIn, keepIn, keptIn, pageIn, stateWords}
-use Rattle.histogram.specs.declared.turn.Turn.{Turn}
-use Rattle.histogram.specs.declared.turn.Turn.the-variants.{NewAsk, LastAsk, OtherWindow, OutOfTurn}
+use Rattle.state.specs.Meaning.{fittingOf, roomy}
+use Rattle.state.specs.Turns.{turnOf}
+use Rattle.state.specs.Words.{flipIn, freshIn, keepIn, keptIn, pageIn}
+use Rattle.state.specs.declared.Turn.the-variants.{NewAsk, LastAsk, OtherWindow, OutOfTurn}
+use Rattle.state.specs.declared.Turn.{Turn}
 
 -- what an accepted call answers: nothing more; an ask's sum, new; an ask's kept sum, again
 pub data Value : Type 0 where
@@ -35,10 +35,6 @@ lent memory state = record { memory = memory; state = state }
 abbrev pub CallOutcome : Type 0
 CallOutcome = Outcome Value Lent
 
--- enough words for a state
-abbrev pub roomy : List ℕ → Bool
-roomy state = leb stateWords (length state)
-
 -- opened: "sets all to 0 and makes the lower half active"
 abbrev pub freshly : List ℕ → List ℕ → CallOutcome
 freshly memory state = accept done (lent (replicate (length memory) 0) (freshIn state (length memory)))
@@ -46,10 +42,6 @@ freshly memory state = accept done (lent (replicate (length memory) 0) (freshIn 
 -- "Opening takes 2N words of 32 bits, N from 1 to 262,144"; refusal 13, also for fewer words than a state takes
 unfoldable pub openMeans : List ℕ → List ℕ → CallOutcome
 openMeans memory state = pick (roomy state && sizedOf (length memory)) (freshly memory state) (refuse 13 (lent memory state))
-
--- 13: "memory length odd, outside 2 to 524,288, or not the state's 2N"; where this fails, or fewer words than a state takes are lent
-abbrev pub fittingOf : ℕ → List ℕ → Bool
-fittingOf words state = roomy state && (sizedOf words && eqb words (getD state 0 0))
 
 -- whether a call on memory and state may go on; refusal 13
 unfoldable pub admission : List ℕ → List ℕ → Paper (Unit {0})
@@ -117,19 +109,6 @@ turnMeans NewAsk memory state number w = newMeans memory state number w
 turnMeans (LastAsk sum) memory state number w = accept (again sum) (lent memory state)
 turnMeans OtherWindow memory state number w = refuse 18 (lent memory state)
 turnMeans OutOfTurn memory state number w = refuse 17 (lent memory state)
-
--- "A new ask bears the number after the last accepted, 1 after opening, 0 after 65535"; 13 for a last number that no ask bears
-abbrev pub nextAfterLast : ℕ → Paper ℕ
-nextAfterLast number = pick (leb number 65535) (accepted (nextOf number)) (refused 13)
-
--- the same after what is kept
-abbrev pub nextAfter : Kept → Paper ℕ
-nextAfter Nothing = accepted 1
-nextAfter (Last number w sum) = nextAfterLast number
-
--- the number of the next new ask; refusal 13, also for fewer words than a state takes
-unfoldable pub nextMeans : List ℕ → Paper ℕ
-nextMeans state = pick (roomy state) (nextAfter (keptIn state)) (refused 13)
 
 -- an ask; refusals 13, then 18 or 17, 14, 16; a repeat meets only 13
 unfoldable pub askMeans : List ℕ → List ℕ → ℕ → Window → CallOutcome

@@ -12,16 +12,16 @@ use Rattle.ground.specs.Choice.{pick-elim}
 use Rattle.ground.specs.Paper.{accepted, refused}
 use Rattle.ground.specs.Questions.{both-ways}
 use Rattle.pages.specs.declared.Window.{Window}
+use Rattle.state.specs.Turns.{nextOf, sameOf, turnOf}
+use Rattle.state.specs.Words.{Kept, Last, Nothing, freshIn, keptIn}
+use Rattle.state.specs.declared.Turn.the-variants.{NewAsk, LastAsk, OtherWindow, OutOfTurn}
+use Rattle.state.specs.declared.Turn.{Turn}
 use Rattle.histogram.specs.Meaning.{Admits, CallOutcome, admission, askMeans, done, new, openMeans}
 use Rattle.histogram.specs.Outcomes.{is-opened}
 use Rattle.histogram.specs.Repeat.{is-new, stays-kept}
 use Rattle.histogram.specs.Runs.{Call, ask, Ledger, NoNew, answered, opening, run, step}
 use Rattle.histogram.specs.States.{fresh-admits, framed-admits, framed-same}
 use Rattle.histogram.specs.Stays.{run-stays}
-use Rattle.histogram.specs.Turns.{nextOf, sameOf, turnOf}
-use Rattle.histogram.specs.Words.{Kept, Last, Nothing, freshIn, keptIn}
-use Rattle.histogram.specs.declared.turn.Turn.{Turn}
-use Rattle.histogram.specs.declared.turn.Turn.the-variants.{NewAsk, LastAsk, OtherWindow, OutOfTurn}
 
 -- the number that a new ask must bear, beside what is kept: "the number after the last accepted, 1 after opening"
 abbrev pub turnNumber : Kept → ℕ

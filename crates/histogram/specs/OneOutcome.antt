@@ -4,17 +4,16 @@ use mathlib.Core.Path.{_≡_, ap}
 use mathlib.Core.List.{List}
 use Prim.Native.Nat.{ℕ}
 use Rattle.ground.specs.Outcome.{outcomeOf, outcome-one}
-use Rattle.ground.specs.Paper.{Paper, numberOf, one-answer, one-value}
+use Rattle.ground.specs.Paper.{Paper, numberOf, one-value}
 use Rattle.pages.specs.declared.Window.{Window}
 use Rattle.histogram.specs.Answers.{openedPaper, openedBack, opened-home, incrementPaper, incrementBack, increment-home}
-use Rattle.histogram.specs.Answers.{incrementsPaper, incrementsBack, increments-home, nextPaper, nextBack, next-home}
+use Rattle.histogram.specs.Answers.{incrementsPaper, incrementsBack, increments-home}
 use Rattle.histogram.specs.Answers.{flipPaper, flipBack, flip-home, askPaper, askBack, ask-home}
 use Rattle.histogram.specs.Meaning.{CallOutcome, Lent, Value, lent}
-use Rattle.histogram.specs.Promise.{OpenPromise, IncrementPromise, IncrementsPromise, NextPromise, FlipPromise, AskPromise}
+use Rattle.histogram.specs.Promise.{OpenPromise, IncrementPromise, IncrementsPromise, FlipPromise, AskPromise}
 use Rattle.histogram.specs.declared.Opened.{Opened}
 use Rattle.histogram.specs.declared.IncrementAnswer.{IncrementAnswer}
 use Rattle.histogram.specs.declared.IncrementsAnswer.{IncrementsAnswer}
-use Rattle.histogram.specs.declared.NextAnswer.{NextAnswer}
 use Rattle.histogram.specs.declared.FlipAnswer.{FlipAnswer}
 use Rattle.histogram.specs.declared.AskAnswer.{AskAnswer}
 
@@ -41,10 +40,6 @@ pub increments-one : {m w addresses : List ℕ} {r s : IncrementsAnswer} {m′ n
 increments-one p q =
     let one = outcome-one incrementsPaper incrementsBack increments-home (p .outcome) (q .outcome) in
     (one .0, ap (λ (l : Lent). l .memory) (one .1))
-
--- the number of the next ask
-pub next-one : {w : List ℕ} {r s : NextAnswer} → NextPromise w r → NextPromise w s → r ≡ s
-next-one p q = one-answer nextPaper nextBack next-home (p .answer) (q .answer)
 
 -- a flip; the memory is lent unchangeable
 pub flip-one : {m w : List ℕ} {r s : FlipAnswer} {w′ v′ : List ℕ} → FlipPromise m w r w′ → FlipPromise m w s v′ → (r ≡ s) × (w′ ≡ v′)
@@ -74,7 +69,3 @@ ask-number-one answer p q = one-value p q
 -- one number for a run's answer
 pub increments-number-one : (answer : IncrementsAnswer) {m n : ℕ} → m ≡ numberOf (incrementsPaper answer) → n ≡ numberOf (incrementsPaper answer) → m ≡ n
 increments-number-one answer p q = one-value p q
-
--- one number for the answer of the next ask's number
-pub next-number-one : (answer : NextAnswer) {m n : ℕ} → m ≡ numberOf (nextPaper answer) → n ≡ numberOf (nextPaper answer) → m ≡ n
-next-number-one answer p q = one-value p q

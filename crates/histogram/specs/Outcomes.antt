@@ -14,14 +14,15 @@ use Rattle.ground.specs.Questions.{both-hold}
 use Rattle.pages.specs.Meaning.{lastOf, putOf, sizedOf, walkTaken, windowWalk, wordOf}
 use Rattle.pages.specs.Outcomes.{count-elim, take-elim}
 use Rattle.pages.specs.declared.Window.{Window}
+use Rattle.state.specs.Meaning.{roomy}
+use Rattle.state.specs.Turns.{turnOf}
+use Rattle.state.specs.Words.{flipIn, keptIn, pageIn}
+use Rattle.state.specs.declared.Turn.the-variants.{NewAsk, LastAsk, OtherWindow, OutOfTurn}
+use Rattle.state.specs.declared.Turn.{Turn}
 use Rattle.histogram.specs.Meaning.{Admits, CallOutcome, admission, admitted, again, askMeans, counting, done, flipMeans, incrementMeans}
-use Rattle.histogram.specs.Meaning.{Lent, lent, newMeans, openMeans, roomy, taking, turnMeans, freshly}
+use Rattle.histogram.specs.Meaning.{Lent, lent, newMeans, openMeans, taking, turnMeans, freshly}
 use Rattle.histogram.specs.Runs.{Call, increment, flip, ask, callMeans}
 use Rattle.histogram.specs.States.{admission-elim}
-use Rattle.histogram.specs.Turns.{turnOf}
-use Rattle.histogram.specs.Words.{flipIn, keptIn, pageIn}
-use Rattle.histogram.specs.declared.turn.Turn.{Turn}
-use Rattle.histogram.specs.declared.turn.Turn.the-variants.{NewAsk, LastAsk, OtherWindow, OutOfTurn}
 
 -- an accepted opening: the memory's length is one that opening takes, its words are 0, and the state is fresh
 pub record IsOpened (m w : List ℕ) (o : CallOutcome) : Type 0 where

@@ -11,10 +11,10 @@ use Rattle.pages.specs.Meaning.{cellsOf, walkAt, wordOf}
 use Rattle.pages.specs.Walks.{cells-all-under, walk-leaves}
 use Rattle.pages.specs.Words.{put-same, put-other}
 use Rattle.pages.specs.declared.Window.{Window}
+use Rattle.state.specs.Words.{pageIn}
 use Rattle.histogram.specs.Meaning.{CallOutcome, askMeans, done, incrementMeans, lent}
 use Rattle.histogram.specs.Outcomes.{call-elim}
 use Rattle.histogram.specs.Runs.{Call, increment, flip, ask, callMeans}
-use Rattle.histogram.specs.Words.{pageIn}
 
 -- an accepted increment: its counter holds one more, and every other counter what it held
 pub record Raised (m : List ℕ) (page : Bool) (address : ℕ) (after : List ℕ) : Type 0 where

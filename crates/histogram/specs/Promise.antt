@@ -5,12 +5,11 @@ use mathlib.Core.List.{List}
 use Prim.Native.Nat.{ℕ}
 use Rattle.ground.specs.Outcome.{outcomeOf}
 use Rattle.pages.specs.declared.Window.{Window}
-use Rattle.histogram.specs.Answers.{openedPaper, incrementPaper, incrementsPaper, nextPaper, flipPaper, askPaper}
-use Rattle.histogram.specs.Meaning.{askMeans, flipMeans, incrementMeans, incrementsMeans, lent, nextMeans, openMeans, newMeans}
+use Rattle.histogram.specs.Answers.{openedPaper, incrementPaper, incrementsPaper, flipPaper, askPaper}
+use Rattle.histogram.specs.Meaning.{askMeans, flipMeans, incrementMeans, incrementsMeans, lent, openMeans, newMeans}
 use Rattle.histogram.specs.declared.Opened.{Opened}
 use Rattle.histogram.specs.declared.IncrementAnswer.{IncrementAnswer}
 use Rattle.histogram.specs.declared.IncrementsAnswer.{IncrementsAnswer}
-use Rattle.histogram.specs.declared.NextAnswer.{NextAnswer}
 use Rattle.histogram.specs.declared.FlipAnswer.{FlipAnswer}
 use Rattle.histogram.specs.declared.AskAnswer.{AskAnswer}
 
@@ -25,10 +24,6 @@ pub record IncrementPromise (memory state : List ℕ) (address : ℕ) (r : Incre
 -- what a run of increments promises; the state is lent unchangeable
 pub record IncrementsPromise (memory state addresses : List ℕ) (r : IncrementsAnswer) (memory′ : List ℕ) : Type 0 where
   pub outcome : outcomeOf (incrementsPaper r) (lent memory′ state) ≡ incrementsMeans memory state addresses
-
--- what the number of the next ask promises; the state is lent unchangeable
-pub record NextPromise (state : List ℕ) (r : NextAnswer) : Type 0 where
-  pub answer : nextPaper r ≡ nextMeans state
 
 -- what a flip promises; the memory is lent unchangeable
 pub record FlipPromise (memory state : List ℕ) (r : FlipAnswer) (state′ : List ℕ) : Type 0 where

@@ -9,14 +9,14 @@ use borrow.Author.Tests.{eq-eqb}
 use Rattle.ground.specs.Outcome.{accept, refuse}
 use Rattle.ground.specs.Paper.{Paper, accepted, refused-not}
 use Rattle.pages.specs.declared.Window.{Window}
+use Rattle.state.specs.Turns.{sameFlag, sameOf, turnOf}
+use Rattle.state.specs.Words.{Last, keptIn}
+use Rattle.state.specs.declared.Turn.the-variants.{NewAsk}
 use Rattle.histogram.specs.Meaning.{Admits, CallOutcome, Value, new, again, askMeans, lent}
 use Rattle.histogram.specs.Outcomes.{call-elim}
 use Rattle.histogram.specs.Runs.{Call, increment, flip, ask, Ledger, NoNew, answered, opening, run, run-append, step}
 use Rattle.histogram.specs.States.{admits-long, keep-says}
 use Rattle.histogram.specs.Stays.{call-admits, run-stays}
-use Rattle.histogram.specs.Turns.{sameFlag, sameOf, turnOf}
-use Rattle.histogram.specs.Words.{Last, keptIn}
-use Rattle.histogram.specs.declared.turn.Turn.the-variants.{NewAsk}
 
 -- a flag is the same as itself
 pub flag-same : (b : Bool) → sameFlag b b ≡ true

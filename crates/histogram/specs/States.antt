@@ -13,8 +13,9 @@ use Rattle.ground.specs.Outcome.{Outcome, onwardTo}
 use Rattle.ground.specs.Paper.{Paper, accepted, refusal, refused, refused-not}
 use Rattle.pages.specs.Meaning.{countMeans, sizedOf}
 use Rattle.pages.specs.declared.Window.{Window}
-use Rattle.histogram.specs.Words.{Kept, Last, Nothing, flagIn, flagOf, flipIn, freshIn, keepIn, keptIn, pageIn, stateWords}
-use Rattle.histogram.specs.Meaning.{Admits, admission, counting, fittingOf, incrementMeans, lent, roomy}
+use Rattle.state.specs.Meaning.{fittingOf, roomy}
+use Rattle.state.specs.Words.{Kept, Last, Nothing, flagIn, flagOf, flipIn, freshIn, keepIn, keptIn, pageIn, stateWords}
+use Rattle.histogram.specs.Meaning.{Admits, admission, counting, incrementMeans, lent}
 
 -- what holds of ten words and any rest holds of ten words or more
 pub ten : (P : List ℕ → Type 0) → ((a b c d e f g h i j : ℕ) (l : List ℕ) → P (a ∷ b ∷ c ∷ d ∷ e ∷ f ∷ g ∷ h ∷ i ∷ j ∷ l))

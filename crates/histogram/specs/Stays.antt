@@ -9,11 +9,11 @@ use Rattle.ground.specs.Questions.{both-ways}
 use Rattle.pages.specs.Layout.{placeOf}
 use Rattle.pages.specs.Meaning.{cellsOf, walkAt, wordOf}
 use Rattle.pages.specs.Walks.{walk-length}
+use Rattle.state.specs.Words.{keptIn, pageIn}
 use Rattle.histogram.specs.Meaning.{CallOutcome, admission}
 use Rattle.histogram.specs.Outcomes.{call-elim}
 use Rattle.histogram.specs.Runs.{Call, Ledger, NoNew, callMeans, isNew, run, step}
 use Rattle.histogram.specs.States.{Framed, admits-long, flip-framed, flip-says, framed-admits, framed-same, keep-framed}
-use Rattle.histogram.specs.Words.{keptIn, pageIn}
 
 -- what every call leaves as it was: the memory's length, 2N and the words past the state's, and what is kept unless it is a new ask
 pub record Steady (m w : List ℕ) (o : CallOutcome) : Type 0 where

@@ -1,6 +1,4 @@
 // Histogram memory and numbered asks: counters in two pages of lent words, a state in lent words, and sums asked for by number.
-mod turn;
-
 ghost use mathlib.Core.Bool.{not};
 ghost use mathlib.Core.Path.{_≡_};
 ghost use Prim.Native.Nat.{_≤_};
@@ -8,10 +6,10 @@ ghost use lib.ListN.{length};
 ghost use Rattle.ground.specs.Outcome.{outcomeOf};
 ghost use Rattle.ground.specs.Paper.{mapped, numberOf};
 ghost use Rattle.pages.specs.Answers.{countPaper};
-ghost use Rattle.histogram.specs.Words.{flagOf, freshIn, keepIn, pageIn, stateWords};
-ghost use Rattle.histogram.specs.Meaning.{done, feedOf, fittingOf, nextAfterLast};
-ghost use Rattle.histogram.specs.Answers.{openedPaper, incrementPaper, incrementsPaper, nextPaper, flipPaper, askPaper};
-ghost use Rattle.histogram.specs.Promise.{OpenPromise, IncrementPromise, IncrementsPromise, NextPromise, FlipPromise, AskPromise, NewPromise};
+ghost use Rattle.state.specs.Words.{flagOf, freshIn, keepIn, pageIn, stateWords};
+ghost use Rattle.histogram.specs.Meaning.{done, feedOf};
+ghost use Rattle.histogram.specs.Answers.{openedPaper, incrementPaper, incrementsPaper, flipPaper, askPaper};
+ghost use Rattle.histogram.specs.Promise.{OpenPromise, IncrementPromise, IncrementsPromise, FlipPromise, AskPromise, NewPromise};
 use pages::CountAnswer;
 pub use pages::FULL;
 use pages::Taken;
@@ -20,32 +18,20 @@ use pages::clear;
 use pages::count;
 use pages::sized;
 use pages::take;
-use turn::Turn;
-use turn::turn_of;
-
-// How many words a state takes.
-pub const STATE_WORDS: usize = 10;
-
-// Where each stands: the memory's words (2N); whether the second page is active; whether an ask is kept; its number, its window, its sum.
-pub(crate) const WORDS: usize = 0;
-
-pub(crate) const SECOND: usize = 1;
-
-pub(crate) const KEPT: usize = 2;
-
-pub(crate) const NUMBER: usize = 3;
-
-pub(crate) const ADDRESS: usize = 4;
-
-pub(crate) const XSIZE: usize = 5;
-
-pub(crate) const YSIZE: usize = 6;
-
-pub(crate) const YSTRIDE: usize = 7;
-
-pub(crate) const CLEAR: usize = 8;
-
-pub(crate) const SUM: usize = 9;
+use state::ADDRESS;
+use state::CLEAR;
+use state::KEPT;
+use state::NUMBER;
+use state::SECOND;
+pub use state::STATE_WORDS;
+use state::SUM;
+use state::Turn;
+use state::WORDS;
+use state::XSIZE;
+use state::YSIZE;
+use state::YSTRIDE;
+use state::fitting;
+use state::turn_of;
 
 // What opening answers.
 pub enum Opened {
@@ -65,12 +51,6 @@ pub enum IncrementAnswer {
 // What a run of increments answers: how many were counted, and the number of the refusal that ended it, 0 where none did.
 pub enum IncrementsAnswer {
     Fed { count: u64, ended: u8 },
-    WrongMemory,
-}
-
-// What the number of the next ask answers.
-pub enum NextAnswer {
-    Number(u16),
     WrongMemory,
 }
 
@@ -126,19 +106,6 @@ pub fn increments(memory: &mut [u32], state: &[u64], addresses: &[u32]) -> Incre
         return IncrementsAnswer::WrongMemory;
     }
     feed(memory, active_page(state), addresses)
-}
-
-// The number that the next new ask bears.
-pub fn next(state: &[u64]) -> NextAnswer
-    ensures { λ r. ⌜ NextPromise (now (state .entry)) r ⌝ }
-{
-    if state.len() < STATE_WORDS {
-        return NextAnswer::WrongMemory;
-    }
-    if state[KEPT] == 0 {
-        return NextAnswer::Number(1);
-    }
-    following(state[NUMBER])
 }
 
 // Exchanges the active page and the idle one.
@@ -226,16 +193,6 @@ pub fn increments_number(a: IncrementsAnswer) -> u8
     }
 }
 
-// Document 01's number of what the number of the next ask answers, 0 where it is accepted.
-pub fn next_number(a: NextAnswer) -> u8
-    ensures { λ r. ⌜ r ≡ numberOf (nextPaper a) ⌝ }
-{
-    match a {
-        NextAnswer::Number(_) => 0,
-        NextAnswer::WrongMemory => 13,
-    }
-}
-
 // Makes the state of an opened memory of so many words: the first page active, nothing kept.
 fn fresh(state: &mut [u64], words: u64)
     requires { ⌜ stateWords ≤ length (now state) ⌝ }
@@ -247,19 +204,6 @@ fn fresh(state: &mut [u64], words: u64)
         i += 1;
     }
     state[WORDS] = words;
-}
-
-// Whether a memory of so many words is one that the state belongs to.
-fn fitting(words: usize, state: &[u64]) -> bool
-    ensures { λ r. ⌜ r ≡ fittingOf words (now (state .entry)) ⌝ }
-{
-    if state.len() < STATE_WORDS {
-        return false;
-    }
-    if !sized(words) {
-        return false;
-    }
-    words as u64 == state[WORDS]
 }
 
 // The active page: whether it is the second.
@@ -322,19 +266,6 @@ fn count_number(counted: CountAnswer) -> u8
         CountAnswer::Full => 15,
         CountAnswer::AboveFull => 16,
     }
-}
-
-// The number after the last accepted one: 0 after 65535.
-fn following(last: u64) -> NextAnswer
-    ensures { λ r. ⌜ nextPaper r ≡ nextAfterLast last ⌝ }
-{
-    if 65535 < last {
-        return NextAnswer::WrongMemory;
-    }
-    if last == 65535 {
-        return NextAnswer::Number(0);
-    }
-    NextAnswer::Number((last + 1) as u16)
 }
 
 // A new ask: it works on the idle page.

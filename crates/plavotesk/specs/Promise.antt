@@ -13,7 +13,8 @@ use Rattle.rate.specs.Meaning.{ReadingValues, RateValues, readingMeans, rateMea
 use Rattle.format.specs.Meaning.{floatValue, Takes, int24Means}
 use Rattle.cadence.specs.Meaning.{Begins, Ends, secondsMeans}
 use Rattle.pages.specs.declared.Window.{Window}
-use Rattle.histogram.specs.Meaning.{CallOutcome, Fed, Lent, askMeans, flipMeans, incrementMeans, incrementsMeans, nextMeans, openMeans}
+use Rattle.state.specs.Meaning.{nextMeans}
+use Rattle.histogram.specs.Meaning.{CallOutcome, Fed, Lent, askMeans, flipMeans, incrementMeans, incrementsMeans, openMeans}
 use Rattle.plavotesk.specs.Meaning.{toldAs, told, toldWith, toldFound, partOf, Edges, edgesOf, AskValues, toldAsk, Quotients, quotientsOf}
 
 -- finding: the first packet's place, and the bytes skipped before it, with 20 as well

@@ -13,13 +13,13 @@ use Rattle.ground.specs.Choice.{pick}
 use Rattle.ground.specs.Outcome.{accept, refuse}
 use Rattle.ground.specs.Paper.{Paper, accepted, refusal, numberOf}
 use Rattle.pages.specs.declared.Window.{Window}
+use Rattle.state.specs.Words.{pageIn}
 use Rattle.histogram.specs.Conservation.{Balanced, opened-balanced, run-balanced}
 use Rattle.histogram.specs.Feeding.{FedRun, feed-run, increments-elim, run-old}
 use Rattle.histogram.specs.Meaning.{CallOutcome, Fed, Lent, Value, again, askMeans, done, feedOf, feeding, lent, new, openMeans}
 use Rattle.histogram.specs.Outcomes.{call-elim, open-elim}
 use Rattle.histogram.specs.Repeat.{repeat}
 use Rattle.histogram.specs.Runs.{Call, increment, flip, ask, Ledger, NoNew, acceptedBy, callMeans, clearedBy, isNew, opening, run, run-append, step, total}
-use Rattle.histogram.specs.Words.{pageIn}
 use Rattle.plavotesk.specs.Meaning.{AskValues, told, toldAs, toldAsk, toldWith}
 use Rattle.plavotesk.specs.Promise.{HistogramAskPromise, HistogramFlipPromise, HistogramIncrementPromise, HistogramIncrementsPromise}
 use Rattle.plavotesk.specs.Promise.{HistogramOpenPromise, Left, leftBy}

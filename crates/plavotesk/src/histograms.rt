@@ -1,8 +1,8 @@
 // Histogram memory and numbered asks; the state is words that the caller lends and keeps.
 use histogram::AskAnswer;
 use histogram::IncrementsAnswer;
-use histogram::NextAnswer;
 use histogram::Window;
+use state::NextAnswer;
 ghost use mathlib.Core.Path.{_≡_};
 ghost use Rattle.histogram.specs.Answers.{askPaper};
 ghost use Rattle.histogram.specs.Meaning.{lent};
@@ -56,9 +56,9 @@ pub extern "C" fn plv_histogram_increments(
 pub extern "C" fn plv_histogram_next(state: &[u64], number: &mut u16) -> u8
     ensures { λ r. ⌜ HistogramNextPromise (now (state .entry)) (now (number .entry)) (r, now (number .exit)) ⌝ }
 {
-    let answer = histogram::next(state);
+    let answer = state::next(state);
     let NextAnswer::Number(following) = answer else {
-        return histogram::next_number(answer);
+        return state::next_number(answer);
     };
     *number = following;
     0

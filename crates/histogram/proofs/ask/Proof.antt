@@ -1,12 +1,13 @@
 -- `histogram::ask` meets its contract: refused by 13, or what the ask's turn says.
 -- Assumes nothing.
-use mathlib.Core.Path.{_≡_, refl}
+use mathlib.Core.Path.{_≡_, refl, _∙_}
 use borrow.Author.Needs.{needs}
 use Rattle.ground.specs.Questions.{answered-no, answered-yes}
+use Rattle.state.specs.Laws.{turn-kept}
+use Rattle.state.specs.declared.Turn.{Turn}
 use Rattle.histogram.proofs.Calls.{admits, by13, asks, repeats}
 use Rattle.histogram.specs.Meaning.{Admits, CallOutcome, askMeans, turnMeans}
 use Rattle.histogram.specs.States.{admits-long}
-use Rattle.histogram.specs.declared.turn.Turn.{Turn}
 use Rattle.histogram.proofs.ask.Statement.{statement}
 use Rattle.histogram.proofs.ask.Tie as tie
 
@@ -24,14 +25,13 @@ says : (c : tie.After-turn-of) {u : Turn} → c .turn-of .result ≡ u → {o : 
     → (let a = called (c .before .before) .args in o ≡ askMeans (a .memory .now) (a .state .now) (a .number) (a .window))
 says c e p =
     let a = called (c .before .before) .args in
-    asks (a .memory .now) (a .state .now) (a .number) (a .window) (fits (c .before .before)) (c .turn-of .ensures) e p
+    let go = fits (c .before .before) in
+    let turn = turn-kept (a .state .now) (a .number) (a .window) (admits-long _ _ go) in
+    asks (a .memory .now) (a .state .now) (a .number) (a .window) go (c .turn-of .ensures ∙ turn) e p
 
 returns : tie.Need-returns
 unfolding askMeans
 returns c = record { outcome = by13 _ _ _ (answered-no (c .before .fitting .ensures) (c .if1 .taken)) }
-
-turn-of-requires : tie.Need-turn-of-requires
-turn-of-requires c κs = admits-long _ _ (fits (c .before))
 
 new-ask-requires : tie.Need-new-ask-requires
 new-ask-requires c κs = let at-turn = c .before .before .before .before in admits-long _ _ (fits (at-turn .before .before))
@@ -56,6 +56,6 @@ returns-5 c = record { outcome = says (c .before .before) (c .enum-told3 .given 
 pub ask-spec : {M : Type 1} → statement M
 ask-spec =
     tie.close
-    (tie.spec (λ c κs. search needs) (λ c. search needs) returns turn-of-requires (λ c. search needs) new-ask-requires (λ c. search needs)
+    (tie.spec (λ c κs. search needs) (λ c. search needs) returns (λ c κs. search needs) (λ c. search needs) new-ask-requires (λ c. search needs)
     (λ c κs. search needs) (λ c. search needs) (λ c. search needs) (λ c. search needs) (λ c. search needs) returns-2 (λ c. search needs) returns-3
     (λ c. search needs) returns-4 (λ c. search needs) returns-5)

@@ -8,8 +8,8 @@ use lib.ListN.{length, replicate, drop, length-set}
 use borrow.Author.Fill.{fill-none}
 use borrow.Author.Needs.{needs}
 use Rattle.ground.specs.Filling.{fill-step}
+use Rattle.state.specs.Words.{stateWords}
 use Rattle.histogram.proofs.Calls.{freshened}
-use Rattle.histogram.specs.Words.{stateWords}
 use Rattle.histogram.proofs.fresh.Statement.{statement}
 use Rattle.histogram.proofs.fresh.Tie as tie
 

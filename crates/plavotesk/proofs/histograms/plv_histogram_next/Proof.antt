@@ -1,6 +1,6 @@
 -- `plv_histogram_next` meets its contract: the number where there is one.
 -- Assumes nothing.
-use Rattle.histogram.specs.Answers.{nextPaper}
+use Rattle.state.specs.Answers.{nextPaper}
 use Rattle.plavotesk.proofs.Telling.{needs, refl, accepts, refuses-as}
 use Rattle.plavotesk.proofs.histograms.plv_histogram_next.Statement.{statement}
 use Rattle.plavotesk.proofs.histograms.plv_histogram_next.Tie as tie

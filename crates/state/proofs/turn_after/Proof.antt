@@ -1,9 +1,9 @@
 -- `turn_after` meets its contract: the last number with its window or another, the next number, or any other.
 -- Assumes nothing.
 use borrow.Author.Needs.{needs}
-use Rattle.histogram.proofs.Turning.{turn-last, turn-other, turn-new, turn-out}
-use Rattle.histogram.proofs.turn.turn_after.Statement.{statement}
-use Rattle.histogram.proofs.turn.turn_after.Tie as tie
+use Rattle.state.proofs.Turning.{turn-last, turn-other, turn-new, turn-out}
+use Rattle.state.proofs.turn_after.Statement.{statement}
+use Rattle.state.proofs.turn_after.Tie as tie
 
 returns : tie.Need-returns
 returns c =

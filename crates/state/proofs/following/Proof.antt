@@ -1,9 +1,9 @@
--- `histogram::following` meets its contract: the number after the last, 0 after 65535, none after a number that no ask bears.
+-- `state::following` meets its contract: the number after the last, 0 after 65535, none after a number that no ask bears.
 -- Assumes nothing.
 use borrow.Author.Needs.{needs}
 use borrow.Author.Tests.{le-leb, lt-leb, eq-eqb, ne-eqb}
-use Rattle.histogram.proofs.following.Statement.{statement}
-use Rattle.histogram.proofs.following.Tie as tie
+use Rattle.state.proofs.following.Statement.{statement}
+use Rattle.state.proofs.following.Tie as tie
 
 returns : tie.Need-returns
 returns c = rw (lt-leb (c .before .args .last) 65535 (c .if1 .taken))

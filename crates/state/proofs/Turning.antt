@@ -9,10 +9,10 @@ use lib.Dec.{eqb}
 use lib.ListN.{getD}
 use borrow.Author.Tests.{eq-eqb, ne-eqb}
 use Rattle.pages.specs.declared.Window.{Window}
-use Rattle.histogram.specs.Words.{keptIn, lastIn, windowIn}
-use Rattle.histogram.specs.Turns.{nextOf, sameOf, turnOf}
-use Rattle.histogram.specs.declared.turn.Turn.{Turn}
-use Rattle.histogram.specs.declared.turn.Turn.the-variants.{NewAsk, LastAsk, OtherWindow, OutOfTurn}
+use Rattle.state.specs.Words.{keptIn, lastIn, windowIn}
+use Rattle.state.specs.Turns.{nextOf, sameOf, turnOf}
+use Rattle.state.specs.declared.Turn.{Turn}
+use Rattle.state.specs.declared.Turn.the-variants.{NewAsk, LastAsk, OtherWindow, OutOfTurn}
 
 module _ (l : List ℕ) (number : ℕ) (w : Window) where
   module _ {last : Bool} (e : last ≡ eqb number (getD l 3 0)) where

@@ -1,10 +1,10 @@
--- `histogram::fitting` meets its contract: the three tests of 13.
+-- `state::fitting` meets its contract: the three tests of 13.
 -- Assumes nothing.
 use borrow.Author.Needs.{needs}
 use Rattle.ground.specs.Questions.{answered-no, answered-yes}
-use Rattle.histogram.proofs.Calls.{fits-short, fits-odd, fits-last}
-use Rattle.histogram.proofs.fitting.Statement.{statement}
-use Rattle.histogram.proofs.fitting.Tie as tie
+use Rattle.state.proofs.Saying.{fits-short, fits-odd, fits-last}
+use Rattle.state.proofs.fitting.Statement.{statement}
+use Rattle.state.proofs.fitting.Tie as tie
 
 returns : tie.Need-returns
 returns c = let a = c .before .before .args in fits-short (a .words) (a .state .now) (c .if1 .taken)

@@ -3,9 +3,9 @@
 use Prim.Native.Nat.{_<_}
 use native.Mathlib.Omega.{arith}
 use borrow.Author.Needs.{needs}
-use Rattle.histogram.proofs.Turning.{next-wraps, next-none, next-more}
-use Rattle.histogram.proofs.turn.follows.Statement.{statement}
-use Rattle.histogram.proofs.turn.follows.Tie as tie
+use Rattle.state.proofs.Turning.{next-wraps, next-none, next-more}
+use Rattle.state.proofs.follows.Statement.{statement}
+use Rattle.state.proofs.follows.Tie as tie
 
 returns : tie.Need-returns
 returns c = next-wraps _ _ (c .if1 .taken)

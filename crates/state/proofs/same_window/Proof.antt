@@ -2,8 +2,8 @@
 -- Assumes nothing.
 use borrow.Author.Needs.{needs}
 use Rattle.ground.specs.Questions.{tests}
-use Rattle.histogram.proofs.turn.same_window.Statement.{statement}
-use Rattle.histogram.proofs.turn.same_window.Tie as tie
+use Rattle.state.proofs.same_window.Statement.{statement}
+use Rattle.state.proofs.same_window.Tie as tie
 
 pub same-window-spec : {M : Type 1} → statement M
 same-window-spec =

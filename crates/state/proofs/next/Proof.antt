@@ -1,10 +1,10 @@
--- `histogram::next` meets its contract: 1 where nothing is kept, else the number after the kept one.
+-- `state::next` meets its contract: 1 where nothing is kept, else the number after the kept one.
 -- Assumes nothing.
 use mathlib.Core.Path.{_∙_}
 use borrow.Author.Needs.{needs}
-use Rattle.histogram.proofs.Calls.{next-short, next-first, next-last}
-use Rattle.histogram.proofs.next.Statement.{statement}
-use Rattle.histogram.proofs.next.Tie as tie
+use Rattle.state.proofs.Saying.{next-short, next-first, next-last}
+use Rattle.state.proofs.next.Statement.{statement}
+use Rattle.state.proofs.next.Tie as tie
 
 returns : tie.Need-returns
 returns c = record { answer = next-short _ (c .if1 .taken) }

@@ -1,0 +1,2 @@
+mod Saying
+mod Turning

@@ -1,0 +1,7 @@
+pub mod Words
+pub mod Turns
+pub mod Meaning
+pub mod Answers
+pub mod Promise
+pub mod OneOutcome
+pub mod Laws

@@ -1,0 +1,40 @@
+-- What each call says of a state's words: 13, whose turn it is, and the next number.
+-- Assumes nothing.
+use mathlib.Core.Bool.{Bool, _&&_}
+use mathlib.Core.List.{List}
+use Prim.Native.Nat.{ℕ}
+use lib.Dec.{eqb, leb}
+use lib.ListN.{getD, length}
+use Rattle.ground.specs.Choice.{pick}
+use Rattle.ground.specs.Paper.{Paper, accepted, refused}
+use Rattle.pages.specs.Meaning.{sizedOf}
+use Rattle.pages.specs.declared.Window.{Window}
+use Rattle.state.specs.Turns.{nextOf, turnOf}
+use Rattle.state.specs.Words.{Kept, Last, Nothing, keptIn, stateWords}
+use Rattle.state.specs.declared.Turn.{Turn}
+use Rattle.state.specs.declared.Turn.the-variants.{OutOfTurn}
+
+-- enough words for a state
+abbrev pub roomy : List ℕ → Bool
+roomy state = leb stateWords (length state)
+
+-- 13: "memory length odd, outside 2 to 524,288, or not the state's 2N"; where this fails, or fewer words than a state takes are lent
+abbrev pub fittingOf : ℕ → List ℕ → Bool
+fittingOf words state = roomy state && (sizedOf words && eqb words (getD state 0 0))
+
+-- whose turn it is beside a state's words; fewer words than a state takes are nobody's
+abbrev pub turnIn : List ℕ → ℕ → Window → Turn
+turnIn state number w = pick (roomy state) (turnOf (keptIn state) number w) OutOfTurn
+
+-- "A new ask bears the number after the last accepted, 1 after opening, 0 after 65535"; 13 for a last number that no ask bears
+abbrev pub nextAfterLast : ℕ → Paper ℕ
+nextAfterLast number = pick (leb number 65535) (accepted (nextOf number)) (refused 13)
+
+-- the same after what is kept
+abbrev pub nextAfter : Kept → Paper ℕ
+nextAfter Nothing = accepted 1
+nextAfter (Last number w sum) = nextAfterLast number
+
+-- the number of the next new ask; refusal 13, also for fewer words than a state takes
+unfoldable pub nextMeans : List ℕ → Paper ℕ
+nextMeans state = pick (roomy state) (nextAfter (keptIn state)) (refused 13)
