@@ -22,6 +22,7 @@ import ctypes
 import fcntl
 import os
 import struct
+import threading
 import zlib
 from typing import Any, Iterator
 
@@ -86,6 +87,7 @@ class BoardFile(Histogram):
         BoardDamaged where it cannot be read, ValueError where its counters are others than said."""
         self._path = os.path.abspath(os.fspath(path))
         self._file: int | None = None
+        self._lock = threading.RLock()
         self._process = os.getpid()
         self._since = 0
         self._ahead = False
@@ -217,12 +219,13 @@ class BoardFile(Histogram):
         self._since += len(record)
 
     def close(self) -> None:
-        """Flushes the file and lets it go; the board can be gone on with later."""
-        if self._file is not None:
-            with contextlib.suppress(OSError):
-                os.fsync(self._file)
-            os.close(self._file)
-            self._file = None
+        """Flushes the file and lets it go, after the call under way; the board can be gone on with later."""
+        with self._lock:
+            if self._file is not None:
+                with contextlib.suppress(OSError):
+                    os.fsync(self._file)
+                os.close(self._file)
+                self._file = None
 
     def __enter__(self) -> BoardFile:
         return self
