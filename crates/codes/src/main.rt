@@ -1,11 +1,11 @@
 // The code program: its header, then for each line of standard input the value and both codes, or `refused 8`. It only moves
-// bytes; the lines are taken apart, answered and printed by the crate `lines`.
+// bytes; the lines are taken apart and answered by the crate `lines`, and printed by `printing`.
 ghost use Rattle.io.specs.Counts.{Counts};
 use libc::STDIN_FILENO;
 
 fn main() {
     let mut input = io::large_buffer();
-    let header = lines::print_header();
+    let header = printing::print_header();
     if header.written {
         print_lines(&mut input);
     }
@@ -18,7 +18,7 @@ fn print_lines(input: &mut [u8]) {
     let mut turns = u64::MAX;
     let mut got = read(input);
     while turns > 0 && got > 0 {
-        let printed = lines::print_piece(line, &input[..got]);
+        let printed = printing::print_piece(line, &input[..got]);
         if !printed.written {
             return;
         }
@@ -26,7 +26,7 @@ fn print_lines(input: &mut [u8]) {
         got = read(input);
         turns -= 1;
     }
-    lines::print_last(line);
+    printing::print_last(line);
 }
 
 // Reads what there is, without waiting for more; how many bytes. At the end of the input there are none.

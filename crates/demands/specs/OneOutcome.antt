@@ -33,7 +33,7 @@ pub use Rattle.histogram.specs.OneOutcome.{open-number-one, increment-number-on
 -- the code program's lines
 pub use Rattle.lines.specs.OneOutcome.{fresh-one, with-byte-one, header-one as lines-header-one, put-answer-one, run-one}
 -- what the code program prints with
-pub use Rattle.lines.specs.OneOutcome.{print-header-one as printing-header-one, print-piece-one as piece-one, print-last-one as last-one}
+pub use Rattle.printing.specs.OneOutcome.{print-header-one as printing-header-one, print-piece-one as piece-one, print-last-one as last-one}
 -- the C interface: packets and messages; the checksum has the promise above
 pub use Rattle.plavotesk.specs.OneOutcome.{plv-packet-find-one, plv-packet-header-one, plv-packet-payload-one, plv-packet-write-one}
 pub use Rattle.plavotesk.specs.OneOutcome.{plv-message-read-one, plv-message-write-one}

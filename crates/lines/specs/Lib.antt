@@ -6,5 +6,4 @@ pub mod Running
 pub mod Promise
 pub mod After
 pub mod Moving
-pub mod Printing
 pub mod OneOutcome

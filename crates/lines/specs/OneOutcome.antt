@@ -6,10 +6,7 @@ use Prim.Native.Nat.{ℕ}
 use Rattle.ground.specs.Paper.{one-value}
 use Rattle.lines.specs.declared.Line.{Line}
 use Rattle.lines.specs.declared.Ran.{Ran}
-use Rattle.lines.specs.declared.Output.{Output}
-use Rattle.lines.specs.declared.Printed.{Printed}
 use Rattle.lines.specs.Promise.{FreshPromise, WithBytePromise, HeaderPromise, AnswerPromise, RunPromise}
-use Rattle.lines.specs.Printing.{PrintHeaderPromise, PrintPiecePromise, PrintLastPromise}
 
 -- `fresh_line` has one outcome
 pub fresh-one : {r s : Line} → FreshPromise r → FreshPromise s → r ≡ s
@@ -39,16 +36,3 @@ pub run-one : {line : Line} {input room : List ℕ} {r s : Ran} {m n : List ℕ}
     → (r ≡ s) × (m ≡ n)
 run-one {r = r} {s = s} p q =
     (same-ran r s (one-value (p .state) (q .state)) (one-value (p .used) (q .used)) (one-value (p .answer) (q .answer)), one-value (p .memory) (q .memory))
-
--- `print_header` has one outcome but for whether the header was taken
-pub print-header-one : {r s : Output} → PrintHeaderPromise r → PrintHeaderPromise s → r .put ≡ s .put
-print-header-one p q = one-value (p .answer) (q .answer)
-
--- `print_piece` has one outcome but for whether the answers were taken
-pub print-piece-one : {line : Line} {piece : List ℕ} {r s : Printed} → PrintPiecePromise line piece r → PrintPiecePromise line piece s
-    → (r .line ≡ s .line) × (r .put ≡ s .put)
-print-piece-one p q = (one-value (p .answer) (q .answer), one-value (p .count) (q .count))
-
--- `print_last` has one outcome
-pub print-last-one : {line : Line} {r s : ℕ} → PrintLastPromise line r → PrintLastPromise line s → r ≡ s
-print-last-one p q = one-value (p .answer) (q .answer)

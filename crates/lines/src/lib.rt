@@ -1,7 +1,6 @@
 // The code program's lines, on bytes: taken apart as they come, in pieces of any length, and answered.
 mod answer;
 mod byte;
-mod printing;
 mod text;
 
 ghost use Rattle.lines.specs.Promise.{AnswerPromise, FreshPromise, HeaderPromise, RunPromise, WithBytePromise};
@@ -10,9 +9,6 @@ use answer::next_line;
 use answer::put_line;
 use answer::put_said;
 use byte::digit_taken;
-pub use printing::print_header;
-pub use printing::print_last;
-pub use printing::print_piece;
 use text::put_text;
 
 // The room that any line's answer fits.
@@ -132,17 +128,4 @@ pub fn run(line: Line, input: &[u8], room: &mut [u8]) -> Ran
         used,
         put,
     }
-}
-
-// What was meant for standard output: how many bytes, and whether it took them all.
-pub struct Output {
-    pub put: usize,
-    pub written: bool,
-}
-
-// What printing a piece answers: the line that does not end in it, how many bytes its answers have, and whether all were taken.
-pub struct Printed {
-    pub line: Line,
-    pub put: usize,
-    pub written: bool,
 }

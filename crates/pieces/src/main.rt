@@ -4,7 +4,7 @@ use libc::STDIN_FILENO;
 
 fn main() {
     let mut input = [0u8; 61];
-    let header = lines::print_header();
+    let header = printing::print_header();
     if header.written {
         print_lines(&mut input);
     }
@@ -17,7 +17,7 @@ fn print_lines(input: &mut [u8]) {
     let mut turns = u64::MAX;
     let mut got = io::read_full(STDIN_FILENO, input);
     while turns > 0 && got > 0 {
-        let printed = lines::print_piece(line, &input[..got]);
+        let printed = printing::print_piece(line, &input[..got]);
         if !printed.written {
             return;
         }
@@ -25,5 +25,5 @@ fn print_lines(input: &mut [u8]) {
         got = io::read_full(STDIN_FILENO, input);
         turns -= 1;
     }
-    lines::print_last(line);
+    printing::print_last(line);
 }

@@ -1,10 +1,10 @@
--- `lines::print_last` meets its contract.
+-- `printing::print_last` meets its contract.
 -- Assumes nothing.
 use borrow.Author.Needs.{needs}
 use Rattle.lines.specs.Moving.{answer-inside}
-use Rattle.lines.proofs.Handing.{last-all}
-use Rattle.lines.proofs.printing.print_last.Statement.{statement}
-use Rattle.lines.proofs.printing.print_last.Tie as tie
+use Rattle.printing.proofs.Handing.{last-all}
+use Rattle.printing.proofs.print_last.Statement.{statement}
+use Rattle.printing.proofs.print_last.Tie as tie
 
 handed-requires : tie.Need-handed-requires
 handed-requires c κs = let inside = answer-inside (c .before .before .put-answer .ensures) in search needs

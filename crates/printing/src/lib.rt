@@ -4,15 +4,26 @@
 ghost use mathlib.Core.Path.{_≡_};
 ghost use Prim.Native.Nat.{_+_, _≤_};
 ghost use lib.ListN.{length};
 ghost use Rattle.lines.specs.Meaning.{enough};
-ghost use Rattle.lines.specs.Printing.{PrintHeaderPromise, PrintLastPromise, PrintPiecePromise, capped};
-use crate::Line;
-use crate::Output;
-use crate::Printed;
-use crate::put_answer;
-use crate::put_header;
-use crate::run;
+ghost use Rattle.printing.specs.Promise.{PrintHeaderPromise, PrintLastPromise, PrintPiecePromise, capped};
 use libc::STDOUT_FILENO;
+use lines::Line;
+use lines::put_answer;
+use lines::put_header;
+use lines::run;
+
+// What was meant for standard output: how many bytes, and whether it took them all.
+pub struct Output {
+    pub put: usize,
+    pub written: bool,
+}
+
+// What printing a piece answers: the line that does not end in it, how many bytes its answers have, and whether all were taken.
+pub struct Printed {
+    pub line: Line,
+    pub put: usize,
+    pub written: bool,
+}
 
 // Prints the header; how many bytes were handed over, and whether they were taken.
 pub fn print_header() -> Output

@@ -1,10 +1,10 @@
--- `lines::print_header` meets its contract.
+-- `printing::print_header` meets its contract.
 -- Assumes nothing.
 use borrow.Author.Needs.{needs}
 use Rattle.lines.specs.Moving.{header-inside}
-use Rattle.lines.proofs.Handing.{header-all}
-use Rattle.lines.proofs.printing.print_header.Statement.{statement}
-use Rattle.lines.proofs.printing.print_header.Tie as tie
+use Rattle.printing.proofs.Handing.{header-all}
+use Rattle.printing.proofs.print_header.Statement.{statement}
+use Rattle.printing.proofs.print_header.Tie as tie
 
 handed-requires : tie.Need-handed-requires
 handed-requires c κs = let inside = header-inside (c .before .before .put-header .ensures) in search needs

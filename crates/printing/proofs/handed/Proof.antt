@@ -1,10 +1,10 @@
--- `lines::handed` meets its contract.
+-- `printing::handed` meets its contract.
 -- Assumes nothing.
 use mathlib.Core.Path.{sym}
 use borrow.Author.Needs.{needs}
 use lib.Seq.{length-take-le}
-use Rattle.lines.proofs.printing.handed.Statement.{statement}
-use Rattle.lines.proofs.printing.handed.Tie as tie
+use Rattle.printing.proofs.handed.Statement.{statement}
+use Rattle.printing.proofs.handed.Tie as tie
 
 slice-aggregate-write-all : tie.Need-slice-aggregate-write-all
 slice-aggregate-write-all c = sym (length-take-le _ _ (search needs))

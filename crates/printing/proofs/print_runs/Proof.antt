@@ -1,16 +1,16 @@
--- `lines::print_runs` meets its contract. The loop's invariant: what is left comes to the same as the whole piece, and so does its
+-- `printing::print_runs` meets its contract. The loop's invariant: what is left comes to the same as the whole piece, and so does its
 -- count; each run gets on, so that the measure is the bytes that are left.
 -- Assumes nothing.
 use mathlib.Core.Path.{_≡_}
 use Prim.Native.Nat.{_+_, _≤_, _-_}
-use Rattle.lines.proofs.Pieces.{stays, gets-on, comes-to, counts-to, all-taken}
+use Rattle.printing.proofs.Pieces.{stays, gets-on, comes-to, counts-to, all-taken}
 use borrow.Author.Needs.{needs}
 use lib.ListN.{length, drop}
 use Rattle.lines.specs.Moving.{run-put}
 use Rattle.lines.specs.After.{lineAfter, answersWithin}
-use Rattle.lines.specs.Printing.{capped}
-use Rattle.lines.proofs.printing.print_runs.Statement.{statement}
-use Rattle.lines.proofs.printing.print_runs.Tie as tie
+use Rattle.printing.specs.Promise.{capped}
+use Rattle.printing.proofs.print_runs.Statement.{statement}
+use Rattle.printing.proofs.print_runs.Tie as tie
 
 abbrev Inv-loop : tie.InvT-loop
 Inv-loop piece room₀ current₀ at₀ put₀ written₀ room current at put written = (at ≤ length piece) × (length room ≡ length room₀) ×

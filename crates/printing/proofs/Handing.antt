@@ -7,13 +7,13 @@ use Prim.Native.Nat.{ℕ, _≤_}
 use borrow.Author.Tests.{le-ltb}
 use lib.ListN.{length}
 use Rattle.ground.specs.Choice.{pick}
 use Rattle.lines.specs.declared.Line.{Line}
-use Rattle.lines.specs.declared.Output.{Output}
+use Rattle.printing.specs.declared.Output.{Output}
 use Rattle.lines.specs.Meaning.{header}
 use Rattle.lines.specs.Reading.{answerOf}
 use Rattle.lines.specs.Meaning.{enough}
 use Rattle.lines.specs.Promise.{HeaderPromise, AnswerPromise}
-use Rattle.lines.specs.Printing.{PrintHeaderPromise, PrintLastPromise}
+use Rattle.printing.specs.Promise.{PrintHeaderPromise, PrintLastPromise}
 
 -- all of the header
 pub header-all : {room after : List ℕ} {put : ℕ} {r : Output} → HeaderPromise room put after → enough ≤ length room → r .put ≡ put

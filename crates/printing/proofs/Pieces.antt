@@ -7,14 +7,13 @@ use Prim.Native.Nat.{ℕ, _+_, _-_, _<_, _≤_}
 use native.Mathlib.Omega.{arith}
 use lib.ListN.{length, take, drop, length-take, length-drop, drop-of-length-le}
 use lib.Seq.{drop-drop, take-all}
 use Rattle.lines.specs.declared.Line.{Line}
 use Rattle.lines.specs.declared.Ran.{Ran}
-use Rattle.lines.specs.declared.Printed.{Printed}
 use Rattle.lines.specs.Promise.{RunPromise}
 use Rattle.lines.specs.Meaning.{enough}
 use Rattle.lines.specs.Moving.{run-used, run-moves}
-use Rattle.lines.specs.Printing.{PrintPiecePromise, capped}
+use Rattle.printing.specs.Promise.{PrintPiecePromise, capped}
 use Rattle.lines.specs.After.{lineAfter, after-none, run-left, answersWithin, within-none, run-count}
 
 -- all that is left, as a part
 whole : (piece : List ℕ) (at : ℕ) → take (length piece - at) (drop at piece) ≡ drop at piece

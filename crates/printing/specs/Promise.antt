@@ -5,12 +5,12 @@ use mathlib.Core.Path.{_≡_}
 use mathlib.Core.List.{List}
 use Prim.Native.Nat.{ℕ, min}
 use lib.ListN.{length}
 use Rattle.lines.specs.declared.Line.{Line}
-use Rattle.lines.specs.declared.Output.{Output}
-use Rattle.lines.specs.declared.Printed.{Printed}
+use Rattle.printing.specs.declared.Output.{Output}
+use Rattle.printing.specs.declared.Printed.{Printed}
 use Rattle.lines.specs.Meaning.{header}
 use Rattle.lines.specs.Running.{lastAnswer}
 use Rattle.lines.specs.After.{lineAfter, answersWithin}
 
 -- a count of bytes, up to the greatest number that can be answered, 2 ^ 64 - 1; no piece that a memory holds comes near it
 abbrev pub capped : ℕ → ℕ
