@@ -1,4 +1,4 @@
--- The greatest number with a property: "the largest code ..", "the highest level ..".
+-- The greatest number with a property: "the largest code ..", "the highest level .."; and the least: "the smallest .. count".
 -- Assumes nothing.
 use mathlib.Core.Path.{_≡_, ap, _∙_}
 use mathlib.Core.Logic.{⊎-elim}
@@ -18,6 +18,15 @@ pub record Greatest (P : ℕ → Type 0) (n : ℕ) : Type 0 where
 -- there is one
 pub greatest-one : {P : ℕ → Type 0} {a b : ℕ} → Greatest P a → Greatest P b → a ≡ b
 greatest-one {a = a} {b = b} p q = le-antisymm (q .most a (p .has)) (p .most b (q .has))
+
+-- a number that has the property, and no smaller one has
+pub record Least (P : ℕ → Type 0) (n : ℕ) : Type 0 where
+  pub has : P n
+  pub least : (other : ℕ) → P other → n ≤ other
+
+-- there is one
+pub least-one : {P : ℕ → Type 0} {a b : ℕ} → Least P a → Least P b → a ≡ b
+least-one {a = a} {b = b} p q = le-antisymm (p .least b (q .has)) (q .least a (p .has))
 
 -- of a wider property it is no smaller
 pub greatest-wider : {P Q : ℕ → Type 0} {a b : ℕ} → ((n : ℕ) → P n → Q n) → Greatest P a → Greatest Q b → a ≤ b

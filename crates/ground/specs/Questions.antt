@@ -2,7 +2,7 @@
 -- Assumes nothing.
 use mathlib.Core.Path.{_≡_, refl, sym}
 use mathlib.Core.Bool.{Bool, true, false, not, _&&_}
-use Prim.Native.Nat.{ℕ}
+use Prim.Native.Nat.{ℕ, suc, _≤_}
 use native.Mathlib.Omega.{arith}
 use borrow.Author.Tests.{lt-ltb, le-ltb, le-leb, lt-leb, eq-eqb, ne-eqb}
 
@@ -27,3 +27,7 @@ answered-yes {r = false} p q = cc
 pub both-hold : {a b : Bool} → a && b ≡ true → (a ≡ true) × (b ≡ true)
 both-hold {a = true} {b} e = (refl, e)
 both-hold {a = false} {b} e = (e, cc)
+
+-- a number that is at least n and not n is past it: the arms of a `match` that were not taken, one after the other
+pub past : {n x : ℕ} → n ≤ x → (x ≡ n → ⊥) → suc n ≤ x
+past h k = omega arith

@@ -1,19 +1,15 @@
 -- `cadence::level_seconds` meets its contract: each arm answers the length that the list has at its level, and every other level is over 7.
 -- Assumes nothing.
 use mathlib.Core.Path.{_≡_, refl}
-use Prim.Native.Nat.{ℕ, suc, _≤_, zero-le}
-use native.Mathlib.Omega.{arith}
+use Prim.Native.Nat.{ℕ, zero-le}
 use borrow.Author.Tests.{lt-ltb}
 use Rattle.ground.specs.Paper.{accepted}
+use Rattle.ground.specs.Questions.{past}
 use Rattle.cadence.specs.declared.Length.the-variants.{Seconds}
 use Rattle.cadence.specs.Meaning.{secondsMeans}
 use Rattle.cadence.specs.Promise.{SecondsPromise}
 use Rattle.cadence.proofs.level_seconds.Statement.{statement}
 use Rattle.cadence.proofs.level_seconds.Tie as tie
-
--- a number that is at least n and not n is past it
-past : {n x : ℕ} → n ≤ x → (x ≡ n → ⊥) → suc n ≤ x
-past h k = omega arith
 
 -- a level's arm answers what the definition has at that level
 at : {level n s : ℕ} → level ≡ n → secondsMeans n ≡ accepted s → SecondsPromise level (Seconds s)
