@@ -1,10 +1,11 @@
--- The last counts and the first ones past them, by computing; document 01's starred cases are in `demands`.
+-- The last counts and the first ones past them, and the least counts of a logarithm, by computing; document 01's starred cases are in `demands`.
 -- Assumes nothing.
 use mathlib.Core.Path.{_≡_, refl}
-use Prim.Native.Nat.{_^_}
+use mathlib.Core.List.{List, [], _∷_, _++_}
+use Prim.Native.Nat.{ℕ, zero, suc, _^_}
 use lib.Count.{leadingZeros}
 use Rattle.ground.specs.Paper.{accepted, refused}
-use Rattle.format.specs.Meaning.{codeMeans, int24Means}
+use Rattle.format.specs.Meaning.{codeMeans, int24Means, eighth, log8Of, log8Means}
 
 -- the last count below the 16-bit limit has the last code
 pub float16-last : codeMeans 12 (2 ^ 27) 134217727 ≡ accepted 0xFFFF
@@ -33,3 +34,23 @@ int24-last = refl
 -- the first count past it is refused
 pub int24-refused : int24Means 16777216 ≡ refused 12
 int24-refused = refl
+
+-- 2026-01: the logarithm bytes of the counts before n, in order
+abbrev pub bytesBefore : ℕ → List ℕ
+bytesBefore zero = []
+bytesBefore (suc n) = bytesBefore n ++ (log8Of n ∷ [])
+
+-- those of 0 to 9
+pub log8-small : bytesBefore 10 ≡ 0 ∷ 8 ∷ 16 ∷ 20 ∷ 24 ∷ 26 ∷ 28 ∷ 30 ∷ 32 ∷ 33 ∷ []
+unfolding eighth
+log8-small = refl
+
+-- the last count of the logarithm has the last byte
+pub log8-last : log8Means 2147483647 ≡ accepted 255
+unfolding eighth
+log8-last = refl
+
+-- the first count past it is refused
+pub log8-refused : log8Means 2147483648 ≡ refused 12
+unfolding eighth
+log8-refused = refl

@@ -5,5 +5,6 @@ pub mod OneOutcome
 pub mod Codes
 pub mod Floats
 pub mod Widths
+pub mod Logarithms
 pub mod RoundTrip
 pub mod Cases
