@@ -6,3 +6,4 @@ pub mod Exported
 pub mod OneOutcome
 pub mod Refusals
 pub mod OneMeaning
+pub mod Requests

@@ -20,6 +20,7 @@ pub use Rattle.reader.specs.OneOutcome.{reader-one}
 -- plain formats
 pub use Rattle.format.specs.OneOutcome.{float16-code-one, float16-count-one, float8-code-one, float8-count-one, int24-code-one, int24-count-one}
 pub use Rattle.format.specs.OneOutcome.{code16-number-one, code8-number-one, code24-number-one, count24-number-one}
+pub use Rattle.format.specs.OneOutcome.{log8-code-one, log8-counts-one, log8-code-number-one}
 -- the cadence
 pub use Rattle.cadence.specs.OneOutcome.{seconds-one, beginning-one, ending-one, length-number-one, level-number-one}
 -- readings and rates
@@ -41,6 +42,7 @@ pub use Rattle.plavotesk.specs.OneOutcome.{plv-message-read-one, plv-message-wr
 pub use Rattle.plavotesk.specs.OneOutcome.{plv-code-pack-one, plv-code-unpack-one, plv-reading-one, plv-rate-one}
 -- the C interface: formats and cadence; the counts of floats have the promises above
 pub use Rattle.plavotesk.specs.OneOutcome.{plv-float16-code-one, plv-float8-code-one, plv-int24-code-one, plv-int24-count-one}
+pub use Rattle.plavotesk.specs.OneOutcome.{plv-log8-code-one, plv-log8-counts-one}
 pub use Rattle.plavotesk.specs.OneOutcome.{plv-level-seconds-one, plv-second-beginning-one, plv-second-ending-one}
 -- the C interface: histogram memory
 pub use Rattle.plavotesk.specs.OneOutcome.{plv-histogram-open-one, plv-histogram-increment-one, plv-histogram-increments-one, plv-histogram-next-one}

@@ -24,7 +24,7 @@ use Rattle.code.specs.Meaning.{UnpackValues, packMeans, unpackMeans}
 use Rattle.code.specs.Promise.{PackPromise}
 use Rattle.code.specs.Theorems.{pack-stays}
 use Rattle.rate.specs.Meaning.{RateValues, ReadingValues, rateMeans, readingMeans}
-use Rattle.format.specs.Meaning.{floatValue, Takes, int24Means}
+use Rattle.format.specs.Meaning.{floatValue, Takes, int24Means, Log8Takes}
 use Rattle.cadence.specs.Meaning.{Begins, Ends, secondsMeans}
 use Rattle.pages.specs.declared.CountAnswer.{CountAnswer}
 use Rattle.pages.specs.declared.Taken as pages
@@ -40,7 +40,7 @@ use Rattle.histogram.specs.Runs.{Call, increment, flip, ask, callMeans}
 use Rattle.plavotesk.specs.Meaning.{AskValues, Edges, Quotients, edgesOf, quotientsOf, toldAs, toldAsk, toldFound, toldWith}
 use Rattle.plavotesk.specs.Promise.{Sentence, PacketFindPromise, PacketHeaderPromise, PacketWritePromise, MessageReadPromise, MessageWritePromise}
 use Rattle.plavotesk.specs.Promise.{CodePackPromise, CodeUnpackPromise, ReadingPromise, RatePromise, Float16CodePromise, Float8CodePromise, Int24Promise}
-use Rattle.plavotesk.specs.Promise.{LevelSecondsPromise, SecondBeginningPromise, SecondEndingPromise, Left, leftBy}
+use Rattle.plavotesk.specs.Promise.{Log8CodePromise, LevelSecondsPromise, SecondBeginningPromise, SecondEndingPromise, Left, leftBy}
 use Rattle.plavotesk.specs.Promise.{HistogramOpenPromise, HistogramIncrementPromise, HistogramFlipPromise, HistogramAskPromise}
 use Rattle.plavotesk.specs.Promise.{HistogramIncrementsPromise, HistogramNextPromise}
 
@@ -174,6 +174,10 @@ plv-float8-code-refused count held o = sentence-refused (Takes (floatValue 3) (2
 -- the 24-bit integer of a count, and the count of one
 pub plv-int24-refused : (given held : ℕ) (o : ℕ × ℕ) → Int24Promise given held o → Refuses (o .0) → o .1 ≡ held
 plv-int24-refused given held o = exported-refused (λ (v : ℕ). v) (int24Means given) held o
+
+-- the logarithm byte of a count
+pub plv-log8-code-refused : (count held : ℕ) (o : ℕ × ℕ) → Log8CodePromise count held o → Refuses (o .0) → o .1 ≡ held
+plv-log8-code-refused count held o = sentence-refused (Log8Takes count) held o
 
 -- the cadence
 pub plv-level-seconds-refused : (level held : ℕ) (o : ℕ × ℕ) → LevelSecondsPromise level held o → Refuses (o .0) → o .1 ≡ held

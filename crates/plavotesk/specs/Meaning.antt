@@ -10,6 +10,7 @@ use Rattle.ground.specs.Choice.{pick}
 use Rattle.ground.specs.Outcome.{Outcome}
 use Rattle.ground.specs.Paper.{Paper, accepted, refusal}
 use Rattle.packet.specs.Meaning.{FoundValues, payloadMeans, payloadStart}
+use Rattle.format.specs.Meaning.{Giving, between, noCount}
 use Rattle.pages.specs.declared.Window.{Window}
 use Rattle.histogram.specs.Meaning.{Value, done, new, again}
 use Rattle.rate.specs.declared.record.Rate.{Rate}
@@ -18,7 +19,7 @@ use Rattle.rate.specs.declared.record.Reading.the-variants.{Exact, Between}
 
 -- the version of this interface, PLV_VERSION of the header
 abbrev pub interface : ℕ
-interface = 1
+interface = 2
 
 -- "Each returns its number, and nothing else unless said above": 0 and what the values say where accepted; the number, and what the places held, where refused
 unfoldable pub toldAs : {A X : Type 0} → (A → X) → Paper A → X → ℕ × X
@@ -68,6 +69,17 @@ pub record Quotients : Type 0 where
 -- the quotients of a rate
 abbrev pub quotientsOf : Rate → ℕ → Quotients
 quotientsOf rate next = record { low = bitsOf (rate .low); high = bitsOf (rate .high); seconds = bitsOf (rate .seconds); next = next }
+
+-- 2026-01, "the smallest and largest counts that give it, or a plain word that no count does": both counts, and 1 where there are some
+pub record CountEnds : Type 0 where
+  pub low : ℕ
+  pub high : ℕ
+  pub some : ℕ
+
+-- the counts of a logarithm byte; where no count gives it, all three are 0
+abbrev pub countEnds : Giving → CountEnds
+countEnds (between low high) = record { low = low; high = high; some = 1 }
+countEnds noCount = record { low = 0; high = 0; some = 0 }
 
 -- what an ask's lent places take: its sum, and 1 where it was answered again
 pub record AskValues : Type 0 where

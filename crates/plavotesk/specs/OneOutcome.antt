@@ -10,13 +10,14 @@ use Rattle.message.specs.Meaning.{ReadValues}
 use Rattle.code.specs.Meaning.{UnpackValues}
 use Rattle.format.specs.Meaning.{floatValue}
 use Rattle.format.specs.Codes.{takes-one}
+use Rattle.format.specs.Logarithms.{log8-one, given-one}
 use Rattle.cadence.specs.Sentence.{level-one}
 use Rattle.pages.specs.declared.Window.{Window}
-use Rattle.plavotesk.specs.Meaning.{told, interface, AskValues, Edges, Quotients}
+use Rattle.plavotesk.specs.Meaning.{told, interface, AskValues, Edges, Quotients, countEnds}
 use Rattle.plavotesk.specs.Promise.{PacketFindPromise, PacketHeaderPromise, PacketPayloadPromise, PacketWritePromise}
 use Rattle.plavotesk.specs.Promise.{MessageReadPromise, MessageWritePromise, CodePackPromise, CodeUnpackPromise, ReadingPromise, RatePromise}
-use Rattle.plavotesk.specs.Promise.{Sentence, Float16CodePromise, Float8CodePromise, Int24Promise, LevelSecondsPromise}
-use Rattle.plavotesk.specs.Promise.{SecondBeginningPromise, SecondEndingPromise}
+use Rattle.plavotesk.specs.Promise.{Sentence, Float16CodePromise, Float8CodePromise, Int24Promise, Log8CodePromise, Log8CountsPromise}
+use Rattle.plavotesk.specs.Promise.{LevelSecondsPromise, SecondBeginningPromise, SecondEndingPromise}
 use Rattle.plavotesk.specs.Promise.{HistogramOpenPromise, HistogramIncrementPromise, HistogramFlipPromise, HistogramAskPromise}
 use Rattle.plavotesk.specs.Promise.{HistogramIncrementsPromise, HistogramNextPromise}
 use Rattle.histogram.specs.Meaning.{Fed}
@@ -75,6 +76,13 @@ plv-int24-code-one count held o p = one-value
 
 pub plv-int24-count-one : (code held : ℕ) → One (Int24Promise code held)
 plv-int24-count-one code held o p = one-value
+
+pub plv-log8-code-one : (count held : ℕ) → One (Log8CodePromise count held)
+plv-log8-code-one count held = sentence-one (log8-one count)
+
+pub plv-log8-counts-one : (code : ℕ) → One (Log8CountsPromise code)
+plv-log8-counts-one code o p x y =
+    x .outcome ∙ ap countEnds (given-one code (x .answer) (y .answer) (x .holds) (y .holds)) ∙ sym (y .outcome)
 
 -- the cadence
 pub plv-level-seconds-one : (level held : ℕ) → One (LevelSecondsPromise level held)

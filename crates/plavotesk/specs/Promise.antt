@@ -10,12 +10,13 @@ use Rattle.packet.specs.Meaning.{FoundValues, HeaderValues, findMeans, headerMe
 use Rattle.message.specs.Meaning.{ReadValues, readMeans, writeMeans as messageMeans}
 use Rattle.code.specs.Meaning.{UnpackValues, packMeans, unpackMeans}
 use Rattle.rate.specs.Meaning.{ReadingValues, RateValues, readingMeans, rateMeans}
-use Rattle.format.specs.Meaning.{floatValue, Takes, int24Means}
+use Rattle.format.specs.Meaning.{floatValue, Takes, int24Means, Giving, Log8Takes, Log8Given}
 use Rattle.cadence.specs.Meaning.{Begins, Ends, secondsMeans}
 use Rattle.pages.specs.declared.Window.{Window}
 use Rattle.state.specs.Meaning.{nextMeans}
 use Rattle.histogram.specs.Meaning.{CallOutcome, Fed, Lent, askMeans, flipMeans, incrementMeans, incrementsMeans, openMeans}
 use Rattle.plavotesk.specs.Meaning.{toldAs, told, toldWith, toldFound, partOf, Edges, edgesOf, AskValues, toldAsk, Quotients, quotientsOf}
+use Rattle.plavotesk.specs.Meaning.{CountEnds, countEnds}
 
 -- finding: the first packet's place, and the bytes skipped before it, with 20 as well
 abbrev pub PacketFindPromise : List ℕ → FoundValues → ℕ × FoundValues → Type 0
@@ -76,6 +77,16 @@ Float8CodePromise count held o = Sentence (Takes (floatValue 3) (2 ^ 34) count) 
 -- the 24-bit integer of a count, and the count of a 24-bit integer
 abbrev pub Int24Promise : ℕ → ℕ → ℕ × ℕ → Type 0
 Int24Promise given held o = o ≡ told (int24Means given) held
+
+-- the logarithm byte of a count
+abbrev pub Log8CodePromise : ℕ → ℕ → ℕ × ℕ → Type 0
+Log8CodePromise count held o = Sentence (Log8Takes count) held o
+
+-- the counts of a logarithm byte: an answer of which the sentence holds, and its two counts
+pub record Log8CountsPromise (code : ℕ) (o : CountEnds) : Type 0 where
+  pub answer : Giving
+  pub holds : Log8Given code answer
+  pub outcome : o ≡ countEnds answer
 
 -- a level's seconds
 abbrev pub LevelSecondsPromise : ℕ → ℕ → ℕ × ℕ → Type 0
