@@ -7,17 +7,22 @@ pub fn value(code: u64, mantissa: u32) -> u64 {
     if e == 0 { f } else { (f + (1 << mantissa)) << (e - 1) }
 }
 
-/// The largest code whose value is not above the count: looked for from the top, code by code, by halves.
+/// The first number from `start` on of which something no longer holds, looked for by halves; `end` where it holds of all before.
+fn until(start: u64, end: u64, holds: impl Fn(u64) -> bool) -> u64 {
+    let (mut low, mut high) = (start, end);
+    while low < high {
+        let middle = (low + high) / 2;
+        if holds(middle) { low = middle + 1 } else { high = middle }
+    }
+    low
+}
+
+/// The largest code whose value is not above the count.
 pub fn code(count: u64, mantissa: u32, bits: u32, limit: u64) -> Result<u64, u8> {
     if count >= limit {
         return Err(12);
     }
-    let (mut low, mut high) = (0, (1u64 << bits) - 1);
-    while low < high {
-        let middle = (low + high).div_ceil(2);
-        if value(middle, mantissa) <= count { low = middle } else { high = middle - 1 }
-    }
-    Ok(low)
+    Ok(until(0, 1 << bits, |code| value(code, mantissa) <= count) - 1)
 }
 
 pub fn float16(count: u64) -> Result<u64, u8> {
