@@ -46,7 +46,7 @@ enum plv_refusal {
 };
 
 /* The version of this interface: a library of another version has other calls, or other state words. */
-#define PLV_VERSION 1
+#define PLV_VERSION 2
 
 /* A number that must be looked at: a refused call changed nothing. */
 #if defined(__GNUC__)
@@ -153,6 +153,13 @@ uint64_t plv_float8_count(uint8_t code);
 /* A count to its 24-bit integer and back; 12. */
 PLV_ANSWERS uint8_t plv_int24_code(uint64_t count, uint32_t *code);
 PLV_ANSWERS uint8_t plv_int24_count(uint32_t code, uint32_t *count);
+
+/* A count to its logarithm byte: 0 for 0, else the largest v with 2^(v-8) not above the count to the eighth power; 12. */
+PLV_ANSWERS uint8_t plv_log8_code(uint64_t count, uint8_t *code);
+
+/* The smallest and the largest count that give a logarithm byte, and some 1: a byte stands for a run of counts, not for one count.
+ * some 0 means that no count gives the byte, and both ends are then 0. */
+void plv_log8_counts(uint8_t code, uint64_t *low, uint64_t *high, uint8_t *some);
 
 /* The seconds that a level, 0 to 7, lasts; 19. */
 PLV_ANSWERS uint8_t plv_level_seconds(uint8_t level, uint16_t *seconds);

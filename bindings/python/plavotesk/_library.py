@@ -7,7 +7,7 @@ import pathlib
 import threading
 
 #: The version of the C interface that this package speaks (PLV_VERSION of the header).
-VERSION = 1
+VERSION = 2
 
 _u8, _u16, _u32, _u64 = ctypes.c_uint8, ctypes.c_uint16, ctypes.c_uint32, ctypes.c_uint64
 _i32, _f64 = ctypes.c_int32, ctypes.c_double
@@ -38,6 +38,8 @@ _CALLS: dict[str, tuple[list, type | None]] = {
     'plv_float8_count': ([_u8], _u64),
     'plv_int24_code': ([_u64] + _to(_u32), _u8),
     'plv_int24_count': ([_u32] + _to(_u32), _u8),
+    'plv_log8_code': ([_u64] + _to(_u8), _u8),
+    'plv_log8_counts': ([_u8] + _to(_u64, _u64, _u8), None),
     'plv_level_seconds': ([_u8] + _to(_u16), _u8),
     'plv_second_beginning': ([_u16] + _to(_u8), _u8),
     'plv_second_ending': ([_u16] + _to(_u8), _u8),

@@ -234,6 +234,19 @@ def int24_count(code: int) -> int:
     return _one(library().plv_int24_count, _u32, within('code', code, 32))
 
 
+def log8_code(count: int) -> int:
+    """The logarithm byte of a count, eight steps to a doubling. Refusal 12."""
+    return _one(library().plv_log8_code, _u8, upward('count', count, 64))
+
+
+def log8_counts(code: int) -> tuple[int, int] | None:
+    """The smallest and the largest count that give a logarithm byte; None where no count gives it. A byte stands for a run of counts, NOT for
+    one count: what went in may be any of them. Refuses nothing; a code of more bits is an OverflowError."""
+    low, high, some = _u64(), _u64(), _u8()
+    library().plv_log8_counts(held('code', code, 8), low, high, some)
+    return (low.value, high.value) if some.value == 1 else None
+
+
 def level_seconds(level: int) -> int:
     """The seconds that a cadence level lasts. Refusal 19."""
     return _one(library().plv_level_seconds, _u16, within('level', level, 8))

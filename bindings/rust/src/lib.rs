@@ -241,6 +241,30 @@ pub fn int24_count(code: u32) -> Answer<u32> {
     answer(number, count)
 }
 
+/// The logarithm byte of a count, eight steps to a doubling. Refusal 12.
+pub fn log8_code(count: u64) -> Answer<u8> {
+    let mut code = 0;
+    // SAFETY: what is lent is lent as it is; the places are ours.
+    let number = called(|| unsafe { raw::plv_log8_code(count, &mut code) });
+    answer(number, code)
+}
+
+/// The smallest and the largest count that give a logarithm byte; `None` where no count gives it. A byte stands for a run of counts, not
+/// for one count. Refuses nothing.
+///
+/// ```
+/// assert_eq!(plavotesk::log8_code(100), Ok(61));
+/// assert_eq!(plavotesk::log8_counts(61), Some((99, 107))); // what went in lies among them
+/// assert_eq!(plavotesk::log8_counts(7), None);
+/// ```
+#[must_use]
+pub fn log8_counts(code: u8) -> Option<(u64, u64)> {
+    let (mut low, mut high, mut some) = (0, 0, 0);
+    // SAFETY: what is lent is lent as it is; the places are ours.
+    called(|| unsafe { raw::plv_log8_counts(code, &mut low, &mut high, &mut some) });
+    (some == 1).then_some((low, high))
+}
+
 /// The seconds that a level lasts. Refusal 19.
 pub fn level_seconds(level: u8) -> Answer<u16> {
     let mut seconds = 0;

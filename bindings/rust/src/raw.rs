@@ -1,7 +1,7 @@
 //! The exported calls as they are: `include/plavotesk.h` in Rust's types.
 
 /// The version of the C interface that this crate speaks (PLV_VERSION of the header).
-pub const VERSION: u32 = 1;
+pub const VERSION: u32 = 2;
 
 /// The words of a histogram's state.
 pub const STATE_WORDS: usize = 10;
@@ -59,6 +59,8 @@ extern "C" {
     pub fn plv_float8_count(code: u8) -> u64;
     pub fn plv_int24_code(count: u64, code: &mut u32) -> u8;
     pub fn plv_int24_count(code: u32, count: &mut u32) -> u8;
+    pub fn plv_log8_code(count: u64, code: &mut u8) -> u8;
+    pub fn plv_log8_counts(code: u8, low: &mut u64, high: &mut u64, some: &mut u8);
     pub fn plv_level_seconds(level: u8, seconds: &mut u16) -> u8;
     pub fn plv_second_beginning(second: u16, level: &mut u8) -> u8;
     pub fn plv_second_ending(second: u16, level: &mut u8) -> u8;
