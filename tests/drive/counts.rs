@@ -27,6 +27,20 @@ fn count(tally: &mut Tally, n: u64, held: u64) {
     let mut read = held as u32;
     let number = unsafe { raw::plv_int24_count(n as u32, &mut read) };
     one(tally, "int24_count", n as u32 as u64, (number, read), format::int24(n as u32 as u64).map(|c| c as u32), held as u32);
+    let mut code = held as u8;
+    let number = unsafe { raw::plv_log8_code(n, &mut code) };
+    one(tally, "log8_code", n, (number, code), format::log8(n).map(|c| c as u8), held as u8);
+}
+
+fn byte(tally: &mut Tally, n: u8, held: u64) {
+    let (mut low, mut high, mut some) = (held, !held, held as u8);
+    unsafe { raw::plv_log8_counts(n, &mut low, &mut high, &mut some) };
+    let plain = match format::log8_counts(n) {
+        Some((low, high)) => (low, high, 1),
+        None => (0, 0, 0),
+    };
+    tally.answered(if some == 0 { "log8_counts of none" } else { "log8_counts of some" }, 0);
+    tally.compare(|| format!("log8_counts of {n}"), (low, high, some), plain);
 }
 
 fn word(tally: &mut Tally, n: u16, held: u64) {
@@ -55,7 +69,15 @@ pub fn drive(random: &mut Random, cases: u64, tally: &mut Tally) {
         count(tally, value.wrapping_sub(1), random.next());
         count(tally, value + 1, random.next());
     }
-    let around = (0..=255).map(|code| format::value(code, 3)).chain((0..64).map(|bit| 1 << bit)).chain([u64::MAX]);
+    for n in 0..=u8::MAX {
+        byte(tally, n, random.next());
+        byte(tally, n, random.next());
+    }
+    for n in 0..=100_000 {
+        count(tally, n, random.next());
+    }
+    let ends = (0..=255).filter_map(format::log8_counts).flat_map(|(low, high)| [low, high]);
+    let around = (0..=255).map(|code| format::value(code, 3)).chain(ends).chain((0..64).map(|bit| 1 << bit)).chain([u64::MAX]);
     for beside in around.flat_map(|n| [n.wrapping_sub(1), n, n.wrapping_add(1)]) {
         count(tally, beside, random.next());
     }
