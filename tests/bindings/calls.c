@@ -180,6 +180,28 @@ static void floats(void) {
     }
 }
 
+static void logarithms(void) {
+    static const uint64_t counts[] = {0, 1, 100, 2147483647, 2147483648, 1ull << 40};
+    static const uint8_t codes[] = {0, 7, 8, 9, 61, 255};
+    char name[40];
+    for (int i = 0; i < 6; i++) {
+        uint8_t code = 0;
+        snprintf(name, sizeof name, "log8 of %" PRIu64, counts[i]);
+        uint8_t number = plv_log8_code(counts[i], &code);
+        one(name, number, code);
+    }
+    for (int i = 0; i < 6; i++) {
+        uint64_t low = 0, high = 0;
+        uint8_t some = 0;
+        plv_log8_counts(codes[i], &low, &high, &some);
+        if (some) {
+            printf("log8 %u: %" PRIu64 " to %" PRIu64 "\n", codes[i], low, high);
+        } else {
+            printf("log8 %u: no count\n", codes[i]);
+        }
+    }
+}
+
 static void cadence(void) {
     static const uint8_t levels[] = {0, 7, 8};
     static const uint16_t seconds[] = {0, 59, 3600};
@@ -271,6 +293,7 @@ int main(void) {
     messages();
     codes();
     floats();
+    logarithms();
     cadence();
     histogram();
     return strcmp(plv_refusal_words(0), "accepted") != 0 || strcmp(plv_refusal_words(21), "no refusal of this version") != 0;

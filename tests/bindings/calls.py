@@ -86,6 +86,11 @@ def counts():
     for count in (16777215, 16777216):
         line(f'int24 of {count}', lambda: plavotesk.int24_code(count))
         line(f'int24 {count}', lambda: plavotesk.int24_count(count))
+    for count in (0, 1, 100, 2147483647, 2147483648, 1 << 40):
+        line(f'log8 of {count}', lambda: plavotesk.log8_code(count))
+    for code in (0, 7, 8, 9, 61, 255):
+        given = plavotesk.log8_counts(code)
+        print(f'log8 {code}: ' + ('no count' if given is None else f'{given[0]} to {given[1]}'))
     for level in (0, 7, 8):
         line(f'level {level}', lambda: plavotesk.level_seconds(level))
     for second in (0, 59, 3600):

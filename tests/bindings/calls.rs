@@ -78,6 +78,12 @@ fn counts() {
         line(&format!("int24 of {count}"), int24_code(count), |code| code.to_string());
         line(&format!("int24 {count}"), int24_count(count as u32), |count| count.to_string());
     }
+    for count in [0, 1, 100, 2_147_483_647, 2_147_483_648, 1 << 40] {
+        line(&format!("log8 of {count}"), log8_code(count), |code| code.to_string());
+    }
+    for code in [0, 7, 8, 9, 61, 255] {
+        println!("log8 {code}: {}", log8_counts(code).map_or("no count".into(), |(low, high)| format!("{low} to {high}")));
+    }
     for level in [0, 7, 8] {
         line(&format!("level {level}"), level_seconds(level), |seconds| seconds.to_string());
     }

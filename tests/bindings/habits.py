@@ -74,7 +74,7 @@ def numbers():
     for message in (Message(0, 256, 0), Message(0, 3, 2 ** 64), Message(0, 3, -1), Message(2 ** 14, 0, 0), Message(-1, 0, 0)):
         refused(7, lambda: plavotesk.message_write(buffer, message))
     for count in (2 ** 34, 2 ** 70):
-        for call in (plavotesk.float16_code, plavotesk.float8_code, plavotesk.int24_code):
+        for call in (plavotesk.float16_code, plavotesk.float8_code, plavotesk.int24_code, plavotesk.log8_code):
             refused(12, lambda: call(count))
     refused(12, lambda: plavotesk.int24_count(2 ** 70))
     for place in (16, 2 ** 80, -1):
@@ -95,16 +95,30 @@ def numbers():
     for counters in (0, -1, 262145, 2 ** 80):
         refused(13, lambda: plavotesk.Histogram(counters))
     for call in (lambda: plavotesk.packet_write(buffer, 2 ** 16, b''), lambda: plavotesk.float16_count(2 ** 16), lambda: plavotesk.float8_code(-1),
-                 lambda: plavotesk.code_unpack(buffer, -1, 0)):
+                 lambda: plavotesk.code_unpack(buffer, -1, 0), lambda: plavotesk.log8_counts(256), lambda: plavotesk.log8_counts(-1),
+                 lambda: plavotesk.log8_code(-1)):
         raises(OverflowError, ' ', call)
     for wrong in (1.0, '1', None, b'1'):
         raises(TypeError, 'level must be', lambda: plavotesk.level_seconds(wrong))
+        raises(TypeError, 'code must be', lambda: plavotesk.log8_counts(wrong))
         raises(TypeError, 'address must be', lambda: board.increment(wrong))
         raises(TypeError, 'address must be', lambda: board.increments([1, wrong]))
         raises(TypeError, 'xsize must be', lambda: board.ask(ALL._replace(xsize=wrong)))
         raises(TypeError, 'clear must be', lambda: board.ask(ALL._replace(clear=wrong)))
     raises(TypeError, 'capture must be', lambda: plavotesk.packet_find('text'))
     raises(TypeError, 'buffer must be', lambda: plavotesk.packet_write(b'no bytearray', 1, b''))
+
+
+def logarithms():
+    """A logarithm byte is answered as a run of counts, which what went in lies in; None is the word for a byte that no count gives."""
+    assert [plavotesk.log8_counts(code) for code in bytes([0, 7, 8, 9, 61])] == [(0, 0), None, (1, 1), None, (99, 107)]
+    for count in (0, 1, 2, 98, 99, 107, 108, 10 ** 6, 2 ** 31 - 1):
+        low, high = plavotesk.log8_counts(plavotesk.log8_code(count))
+        assert type(low) is type(high) is int and low <= count <= high, (low, count, high)
+    given = [counts for counts in map(plavotesk.log8_counts, range(256)) if counts]
+    assert given[0] == (0, 0) and given[-1][1] == 2 ** 31 - 1
+    assert all(before[1] + 1 == after[0] for before, after in zip(given, given[1:]))
+    assert refused(12, lambda: plavotesk.log8_code(2 ** 31)).carried is None
 
 
 def buffers():
@@ -181,6 +195,6 @@ def dear_mistake():
     assert board.open_ask is None
 
 
-for check in (threads, numbers, buffers, iterators, copies, dear_mistake):
+for check in (threads, numbers, logarithms, buffers, iterators, copies, dear_mistake):
     check()
     print(f'{check.__name__}: as they should be')
