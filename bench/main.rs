@@ -126,6 +126,20 @@ fn unpack(bytes: &[u8], at: u64, drop: u8) -> Result<(i32, u64), u8> {
     }
 }
 
+fn log8_code(count: u64) -> Result<u8, u8> {
+    let mut code = 0;
+    match unsafe { raw::plv_log8_code(count, &mut code) } {
+        0 => Ok(code),
+        number => Err(number),
+    }
+}
+
+fn log8_counts(code: u8) -> Option<(u64, u64)> {
+    let (mut low, mut high, mut some) = (0, 0, 0);
+    unsafe { raw::plv_log8_counts(code, &mut low, &mut high, &mut some) };
+    (some == 1).then_some((low, high))
+}
+
 /// Histogram memory behind the exported calls.
 struct Board {
     memory: Vec<u32>,
@@ -325,6 +339,46 @@ fn codes(random: &mut Random) {
     }
 }
 
+/// The logarithm bytes of counts, one after the other; their sum.
+fn log8_run(log8_code: impl Fn(u64) -> Result<u8, u8>, counts: &[u64]) -> u64 {
+    counts.iter().map(|&count| log8_code(count).unwrap() as u64).sum()
+}
+
+/// The counts of logarithm bytes, one after the other; the sum of their ends.
+fn ends_run(log8_counts: impl Fn(u8) -> Option<(u64, u64)>, bytes: &[u8]) -> u64 {
+    bytes.iter().filter_map(|&byte| log8_counts(byte)).map(|(low, high)| low + high).sum()
+}
+
+/// Logarithm bytes: so many at a time that a processor does not learn their order by heart, as it does that of a thousand.
+fn logarithms(random: &mut Random) {
+    let of_all_sizes: Vec<u64> = (0..10_000).map(|_| random.next() >> (33 + random.next() % 31)).collect();
+    let alike: Vec<u64> = (0..10_000).map(|_| 1_000_000 + random.next() % 1000).collect();
+    for (name, counts) in [("of all sizes", of_all_sizes), ("alike", alike)] {
+        assert_eq!(log8_run(log8_code, &counts), log8_run(plain::log8_code, &counts));
+        row(
+            &format!("logarithm bytes of 10,000 counts {name}"),
+            || {
+                black_box(log8_run(log8_code, black_box(&counts)));
+            },
+            || {
+                black_box(log8_run(plain::log8_code, black_box(&counts)));
+            },
+        );
+    }
+    for (name, bytes) in [("of all sizes", random.bytes(10_000)), ("alike", vec![167; 10_000])] {
+        assert_eq!(ends_run(log8_counts, &bytes), ends_run(plain::log8_counts, &bytes));
+        row(
+            &format!("counts of 10,000 logarithm bytes {name}"),
+            || {
+                black_box(ends_run(log8_counts, black_box(&bytes)));
+            },
+            || {
+                black_box(ends_run(plain::log8_counts, black_box(&bytes)));
+            },
+        );
+    }
+}
+
 const fn window(address: u32, xsize: u8, ysize: u8, ystride: u16, clear: bool) -> Window {
     Window { address, xsize, ysize, ystride, clear }
 }
@@ -432,5 +486,6 @@ fn main() {
     writing(&mut random);
     messages(&mut random);
     codes(&mut random);
+    logarithms(&mut random);
     asks();
 }

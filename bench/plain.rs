@@ -4,6 +4,8 @@
 const MARK: [u8; 4] = [0xbe, 0xba, 0xca, 0xfe];
 const SIZES: [usize; 4] = [0, 2, 4, 8];
 const FULL: u32 = 67_108_863;
+/// The eight steps of a doubling: 2^(31 + i/8), rounded up.
+const STEPS: [u32; 8] = [2_147_483_648, 2_341_847_524, 2_553_802_834, 2_784_941_738, 3_037_000_500, 3_311_872_530, 3_611_622_603, 3_938_502_376];
 
 static TABLE: [u16; 256] = table();
 
@@ -201,6 +203,37 @@ pub fn unpack(bytes: &[u8], at: u64, drop: u8) -> Result<(i32, u64), u8> {
         _ => (front << sent | value) << left | (1 << (left - 1)) - 1,
     };
     Ok((if negative { -(magnitude as i32) } else { magnitude as i32 }, at))
+}
+
+#[cfg_attr(called, inline(never))]
+pub fn log8_code(count: u64) -> Result<u8, u8> {
+    if count > 2_147_483_647 {
+        return Err(12);
+    }
+    if count == 0 {
+        return Ok(0);
+    }
+    let zeros = (count as u32).leading_zeros();
+    let led = (count as u32) << zeros;
+    let passed = STEPS[1..].iter().filter(|&&step| step <= led).count();
+    Ok((8 * (32 - zeros as usize) + passed) as u8)
+}
+
+/// The first count whose byte is not below this one, from 8 to 256.
+fn first(byte: u64) -> u64 {
+    (STEPS[byte as usize % 8] as u64 - 1 >> (32 - byte / 8)) + 1
+}
+
+#[cfg_attr(called, inline(never))]
+pub fn log8_counts(code: u8) -> Option<(u64, u64)> {
+    match code as u64 {
+        0 => Some((0, 0)),
+        1..=7 => None,
+        byte => {
+            let (low, high) = (first(byte), first(byte + 1) - 1);
+            (low <= high).then_some((low, high))
+        }
+    }
 }
 
 #[derive(Clone, Copy, PartialEq)]
