@@ -6,5 +6,6 @@ pub mod Codes
 pub mod Floats
 pub mod Widths
 pub mod Logarithms
+pub mod Eighths
 pub mod RoundTrip
 pub mod Cases

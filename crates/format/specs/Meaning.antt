@@ -49,13 +49,13 @@ int24Means n = pick (ltb 16777215 n) (refused 12) (accepted n)
 -- ---- 2026-01, logarithm bytes
 
 -- "2^(v-8) not above c to the eighth power" is, without fractions, 2^v not above (2c)^8
-unfoldable pub eighth : ℕ → ℕ
-eighth c = (2 * c) ^ 8
+unfoldable pub twiceToEighth : ℕ → ℕ
+twiceToEighth c = (2 * c) ^ 8
 
 -- "Count 0 is 0; count c .. is the largest v with 2^(v-8) not above c to the eighth power"
 abbrev pub Log8 : ℕ → ℕ → Type 0
 Log8 zero v = v ≡ 0
-Log8 (suc n) v = Largest (λ (k : ℕ). 2 ^ k) (eighth (suc n)) v
+Log8 (suc n) v = Largest (λ (k : ℕ). 2 ^ k) (twiceToEighth (suc n)) v
 
 -- the byte that a count "from 1 to 2,147,483,647", or 0, gives
 pub record Gives (code count : ℕ) : Type 0 where
@@ -80,7 +80,7 @@ Log8Given code noCount = (count : ℕ) → Gives code count → ⊥
 -- the byte of a count in range, computed: `Logarithms` shows that it is the one of the sentence
 abbrev pub log8Of : ℕ → ℕ
 log8Of zero = 0
-log8Of (suc n) = greatestTo (λ (k : ℕ). leb (2 ^ k) (eighth (suc n))) 255
+log8Of (suc n) = greatestTo (λ (k : ℕ). leb (2 ^ k) (twiceToEighth (suc n))) 255
 
 -- what `Log8Takes` asks for, computed
 abbrev pub log8Means : ℕ → Paper ℕ

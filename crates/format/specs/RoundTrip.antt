@@ -49,7 +49,8 @@ pub log8-order : {m n a b : ℕ} → m ≤ n → Log8CodePromise m (Log8Code.Cod
 log8-order h p q = bytes-follow-counts h (p .answer) (q .answer)
 
 -- a count's byte has two counts, and they enclose the count
-pub log8-encloses : {count code : ℕ} {r : Log8Counts} → Log8CodePromise count (Log8Code.Code code) → Log8CountsPromise code r → Encloses (log8CountsPaper r) count
+pub log8-encloses : {count code : ℕ} {r : Log8Counts} → Log8CodePromise count (Log8Code.Code code) → Log8CountsPromise code r
+    → Encloses (log8CountsPaper r) count
 log8-encloses {count} {code} {r} p q = two-sides code count (log8CountsPaper r) (q .answer) .0 (p .answer)
 
 -- every count that a byte's two counts enclose, both of them too, has that byte

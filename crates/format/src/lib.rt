@@ -128,7 +128,7 @@ pub fn int24_count(code: u32) -> Count24
     Count24::Count(code)
 }
 
-// The logarithm byte of a count: eight times the logarithm to base 2, and eight, rounded down; 0 of no count.
+// The logarithm byte of a count: eight times the logarithm to base 2, and eight, rounded down; 0 of count 0.
 pub fn log8_code(count: u64) -> Log8Code
     ensures { λ r. ⌜ Log8CodePromise count r ⌝ }
 {

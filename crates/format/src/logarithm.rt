@@ -3,8 +3,8 @@ ghost use mathlib.Core.Path.{_≡_};
 ghost use Prim.Native.Nat.{_+_, _-_, _*_, _^_, _<_, _≤_};
 ghost use lib.Dec.{leb};
 ghost use Rattle.ground.specs.Choice.{pick};
-ghost use Rattle.format.specs.Meaning.{eighth as eighthPower};
-ghost use Rattle.format.specs.Logarithms.{Bits, Eighths, First};
+ghost use Rattle.format.specs.Meaning.{twiceToEighth};
+ghost use Rattle.format.specs.Eighths.{Bits, Eighths, First};
 
 // How many bits a count has.
 pub(crate) fn bits(count: u64) -> u64
@@ -39,7 +39,7 @@ pub(crate) fn eighths(count: u64) -> u64
 // 1 where a count lies so many eighths of a doubling above 2^31, else 0.
 fn reaches(eighth: u64, count: u64) -> u64
     requires { ⌜ eighth < 8 ⌝ }
-    ensures { λ r. ⌜ r ≡ pick (leb (2 ^ (256 + eighth)) (eighthPower count)) 1 0 ⌝ }
+    ensures { λ r. ⌜ r ≡ pick (leb (2 ^ (256 + eighth)) (twiceToEighth count)) 1 0 ⌝ }
 {
     if root(eighth) <= count { 1 } else { 0 }
 }
@@ -49,8 +49,8 @@ pub(crate) fn first(code: u64) -> u64
     requires { ⌜ code ≤ 256 ⌝ }
     ensures { λ r. ⌜ First code r ⌝ }
 {
-    let above = root(code % 8) - 1;
-    (above >> (32 - code / 8)) + 1
+    let before = root(code % 8) - 1;
+    (before >> (32 - code / 8)) + 1
 }
 
 // The first count that lies so many eighths of a doubling above 2^31: 2^(31 + eighth/8), rounded up.

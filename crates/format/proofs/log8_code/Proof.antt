@@ -4,7 +4,8 @@ use mathlib.Core.Path.{sym, subst}
 use Prim.Native.Nat.{ℕ, _≤_, _<_}
 use borrow.Author.Needs.{needs}
 use Rattle.format.specs.Meaning.{Gives}
-use Rattle.format.specs.Logarithms.{Eighths, bits-raised, bits-give, nought-given}
+use Rattle.format.specs.Logarithms.{nought-given}
+use Rattle.format.specs.Eighths.{Eighths, bits-raised, bits-give}
 use Rattle.format.proofs.log8_code.Statement.{statement}
 use Rattle.format.proofs.log8_code.Tie as tie
 

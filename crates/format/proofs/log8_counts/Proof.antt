@@ -4,7 +4,8 @@ use mathlib.Core.Path.{sym, subst}
 use Prim.Native.Nat.{ℕ}
 use borrow.Author.Needs.{needs}
 use Rattle.format.specs.Meaning.{Log8Given, between}
-use Rattle.format.specs.Logarithms.{nought-given, none-given, ends-given}
+use Rattle.format.specs.Logarithms.{nought-given}
+use Rattle.format.specs.Eighths.{none-given, ends-given}
 use Rattle.format.proofs.log8_counts.Statement.{statement}
 use Rattle.format.proofs.log8_counts.Tie as tie
 

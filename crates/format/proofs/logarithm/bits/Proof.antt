@@ -2,7 +2,7 @@
 -- Assumes nothing.
 use native.Mathlib.Omega.{arith}
 use lib.Count.{leading-le}
-use Rattle.format.specs.Logarithms.{bits-leading}
+use Rattle.format.specs.Eighths.{bits-leading}
 use Rattle.format.proofs.logarithm.bits.Statement.{statement}
 use Rattle.format.proofs.logarithm.bits.Tie as tie
 

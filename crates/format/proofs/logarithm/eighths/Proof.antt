@@ -4,7 +4,7 @@ use mathlib.Core.Path.{_≡_, subst}
 use Prim.Native.Nat.{ℕ, _-_, _≤_}
 use native.Mathlib.Omega.{arith}
 use borrow.Author.Needs.{needs}
-use Rattle.format.specs.Logarithms.{Eighths, eighths-none, eighths-more}
+use Rattle.format.specs.Eighths.{Eighths, eighths-none, eighths-more}
 use Rattle.format.proofs.logarithm.eighths.Statement.{statement}
 use Rattle.format.proofs.logarithm.eighths.Tie as tie
 

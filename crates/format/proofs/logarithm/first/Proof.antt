@@ -5,12 +5,12 @@ use Prim.Native.Nat.{ℕ, _+_, _-_, _*_, _/_, _%_, _^_}
 use native.Mathlib.Nat.{div-le-self}
 use native.Mathlib.Omega.{arith}
 use borrow.Author.Needs.{needs}
-use Rattle.format.specs.Logarithms.{First, first-some, first-halved}
+use Rattle.format.specs.Eighths.{First, first-some, first-halved}
 use Rattle.format.proofs.logarithm.first.Statement.{statement}
 use Rattle.format.proofs.logarithm.first.Tie as tie
 
-sub-above : tie.Need-sub-above
-sub-above c = first-some (c .root .ensures)
+sub-before : tie.Need-sub-before
+sub-before c = first-some (c .root .ensures)
 
 add-result : tie.Need-add-result
 add-result c =
@@ -24,4 +24,4 @@ returns c =
     first-halved code (32 - code / 8) (subst (λ (v : ℕ). First v (c .root .result)) raised (c .root .ensures))
 
 pub first-spec : {M : Type 1} → statement M
-first-spec = tie.close (tie.spec (λ c κs. search needs) sub-above (λ c. search needs) (λ c. search needs) add-result returns)
+first-spec = tie.close (tie.spec (λ c κs. search needs) sub-before (λ c. search needs) (λ c. search needs) add-result returns)

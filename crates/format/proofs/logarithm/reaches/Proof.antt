@@ -1,7 +1,7 @@
 -- `format::logarithm::reaches` meets its contract: a count reaches the power where it is not below the first that does.
 -- Assumes nothing.
 use borrow.Author.Needs.{needs}
-use Rattle.format.specs.Logarithms.{first-reached, first-missed}
+use Rattle.format.specs.Eighths.{first-reached, first-missed}
 use Rattle.format.proofs.logarithm.reaches.Statement.{statement}
 use Rattle.format.proofs.logarithm.reaches.Tie as tie
 
