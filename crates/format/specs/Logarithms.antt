@@ -1,8 +1,9 @@
 -- The logarithm byte: one byte for a count, in the order of the counts; and a byte's counts, which are those that give it.
 -- Assumes nothing.
 use mathlib.Core.Path.{_≡_, refl, sym, ap, ap₂, _∙_, subst}
-use Prim.Native.Nat.{ℕ, zero, suc, _+_, _*_, _^_, _≤_, _<_, zero-le, suc-le-suc}
-use native.Mathlib.Nat.{le-refl, le-of-eq, le-trans, le-antisymm, le-of-suc-le-suc, lt-of-lt-of-le, lt-of-le-of-lt, lt-irrefl, mul-assoc, mul-comm}
+use Prim.Native.Nat.{ℕ, zero, suc, _+_, _-_, _*_, _^_, _≤_, _<_, zero-le, suc-le-suc}
+use native.Mathlib.Nat.{le-refl, le-of-eq, le-of-lt, one-le-pow, zero-lt-suc}
+use native.Mathlib.Nat.{le-trans, le-antisymm, le-of-suc-le-suc, lt-of-lt-of-le, lt-of-le-of-lt, lt-irrefl, mul-assoc, mul-comm}
 use native.Mathlib.Nat.{zero-mul, suc-mul, mul-left-comm, mul-le-mul-left, mul-le-mul-right, le-of-mul-le-mul-right, pow-zero, pow-suc, pow-le-pow-left}
 use native.Mathlib.Decide.{decLt}
 use native.Mathlib.Omega.{arith}
@@ -35,14 +36,6 @@ power-power s (suc n) =
 pub eighth-grows : {a b : ℕ} → a ≤ b → twiceToEighth a ≤ twiceToEighth b
 unfolding twiceToEighth
 eighth-grows h = pow-le-pow-left (mul-le-mul-left 2 h) 8
-
--- "2^(v-8) not above c to the eighth power", as the request has it from v = 8 on
-pub without-fractions : (k c : ℕ) → (2 ^ k ≤ c ^ 8 → 2 ^ (k + 8) ≤ twiceToEighth c) × (2 ^ (k + 8) ≤ twiceToEighth c → 2 ^ k ≤ c ^ 8)
-unfolding twiceToEighth
-without-fractions k c =
-    let e : (2 * c) ^ 8 ≡ c ^ 8 * 2 ^ 8 = product-power 2 c 8 ∙ mul-comm (2 ^ 8) (c ^ 8) in
-    let p : 2 ^ (k + 8) ≡ 2 ^ k * 2 ^ 8 = pow-add 2 k 8 in
-    (λ h. rw (e, p) (mul-le-mul-right (2 ^ 8) h), λ h. le-of-mul-le-mul-right {k = 2 ^ 8} (rw (e, p) at h) (pow-pos 8))
 
 -- a count doubled s times has 2^(8s) times the eighth power
 eighth-doubled : (c s : ℕ) → twiceToEighth (c * 2 ^ s) ≡ twiceToEighth c * 2 ^ (8 * s)
@@ -94,6 +87,35 @@ reached-nothing {v} r = lt-irrefl 0 (lt-of-lt-of-le (pow-pos v) (r .reaches))
 reached-one : (n : ℕ) → Reached 8 (suc n)
 unfolding twiceToEighth
 reached-one n = let one : Reached 8 1 = record { reaches = le-refl 256 } in reached-grows (le-refl 8) (suc-le-suc zero-le) one
+
+-- "2^(v-8) not above c to the eighth power", from v = 8 on
+without-fractions : (k c : ℕ) → (2 ^ k ≤ c ^ 8 → 2 ^ (k + 8) ≤ twiceToEighth c) × (2 ^ (k + 8) ≤ twiceToEighth c → 2 ^ k ≤ c ^ 8)
+unfolding twiceToEighth
+without-fractions k c =
+    let e : (2 * c) ^ 8 ≡ c ^ 8 * 2 ^ 8 = product-power 2 c 8 ∙ mul-comm (2 ^ 8) (c ^ 8) in
+    let p : 2 ^ (k + 8) ≡ 2 ^ k * 2 ^ 8 = pow-add 2 k 8 in
+    (λ h. rw (e, p) (mul-le-mul-right (2 ^ 8) h), λ h. le-of-mul-le-mul-right {k = 2 ^ 8} (rw (e, p) at h) (pow-pos 8))
+
+-- and below it, where 2^(v-8) is a fraction (and `v - 8` is 0 here): every count from 1 on is above it, and reaches 8
+as-said : (n k : ℕ) → (2 ^ (k - 8) ≤ suc n ^ 8 → 2 ^ k ≤ twiceToEighth (suc n)) × (2 ^ k ≤ twiceToEighth (suc n) → 2 ^ (k - 8) ≤ suc n ^ 8)
+as-said n k =
+    elim (decLt k 8) [
+      | yes l ↦
+          let e : k - 8 ≡ 0 = omega arith in
+          (λ h. reached-grows (le-of-lt l) (le-refl (suc n)) (reached-one n) .reaches, λ h. rw e (one-le-pow 8 (suc n) (zero-lt-suc n)))
+      | no l ↦
+          let e : k - 8 + 8 ≡ k = omega arith in
+          subst (λ (x : ℕ). (2 ^ (k - 8) ≤ suc n ^ 8 → 2 ^ x ≤ twiceToEighth (suc n)) × (2 ^ x ≤ twiceToEighth (suc n) → 2 ^ (k - 8) ≤ suc n ^ 8)) e
+          (without-fractions (k - 8) (suc n))
+    ]
+
+-- "the largest v with 2^(v-8) not above c to the eighth power", to the letter
+pub log8-to-the-letter : (n v : ℕ) → Log8 (suc n) v → Largest (λ (k : ℕ). 2 ^ (k - 8)) (suc n ^ 8) v
+log8-to-the-letter n v g = record { has = as-said n v .1 (g .has); most = λ k r. g .most k (as-said n k .0 r) }
+
+-- and the other way
+pub log8-from-the-letter : (n v : ℕ) → Largest (λ (k : ℕ). 2 ^ (k - 8)) (suc n ^ 8) v → Log8 (suc n) v
+log8-from-the-letter n v g = record { has = as-said n v .0 (g .has); most = λ k r. g .most k (as-said n k .1 r) }
 
 -- a greater count has no smaller weight
 weight-grows : (m n : ℕ) → m ≤ n → weight m ≤ weight n
