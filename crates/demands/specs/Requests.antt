@@ -1,4 +1,4 @@
--- What the requests of document 02 ask to be shown, request by request. The theorems themselves, of the calls' outcomes.
+-- What the requests of document 02 ask to be shown, request by request. The theorems themselves, of the definitions and of the calls' outcomes.
 -- Assumes nothing.
 
 -- 2026-01, "the largest v with 2^(v-8) not above c to the eighth power", to the letter

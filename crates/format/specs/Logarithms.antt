@@ -71,13 +71,6 @@ doubled-reached {v} {c} s r =
     let h : 2 ^ v * 2 ^ (8 * s) ≤ twiceToEighth c * 2 ^ (8 * s) = rw (pow-add 2 v (8 * s), eighth-doubled c s) at (r .reaches) in
     record { reaches = le-of-mul-le-mul-right h (pow-pos (8 * s)) }
 
--- ---- one byte, in the order of the counts
-
--- what a count is held against 2^v by: (2c)^8, and 1 for count 0, so that "Count 0 is 0" is a largest v too
-abbrev pub weight : ℕ → ℕ
-weight zero = 1
-weight (suc n) = twiceToEighth (suc n)
-
 -- count 0 reaches nothing
 pub reached-nothing : {v : ℕ} → Reached v 0 → ⊥
 unfolding twiceToEighth
@@ -87,6 +80,8 @@ reached-nothing {v} r = lt-irrefl 0 (lt-of-lt-of-le (pow-pos v) (r .reaches))
 reached-one : (n : ℕ) → Reached 8 (suc n)
 unfolding twiceToEighth
 reached-one n = let one : Reached 8 1 = record { reaches = le-refl 256 } in reached-grows (le-refl 8) (suc-le-suc zero-le) one
+
+-- ---- the request's sentence
 
 -- "2^(v-8) not above c to the eighth power", from v = 8 on
 without-fractions : (k c : ℕ) → (2 ^ k ≤ c ^ 8 → 2 ^ (k + 8) ≤ twiceToEighth c) × (2 ^ (k + 8) ≤ twiceToEighth c → 2 ^ k ≤ c ^ 8)
@@ -116,6 +111,13 @@ log8-to-the-letter n v g = record { has = as-said n v .1 (g .has); most = λ k r
 -- and the other way
 pub log8-from-the-letter : (n v : ℕ) → Largest (λ (k : ℕ). 2 ^ (k - 8)) (suc n ^ 8) v → Log8 (suc n) v
 log8-from-the-letter n v g = record { has = as-said n v .0 (g .has); most = λ k r. g .most k (as-said n k .1 r) }
+
+-- ---- one byte, in the order of the counts
+
+-- what a count is held against 2^v by: (2c)^8, and 1 for count 0, so that "Count 0 is 0" is a largest v too
+abbrev pub weight : ℕ → ℕ
+weight zero = 1
+weight (suc n) = twiceToEighth (suc n)
 
 -- a greater count has no smaller weight
 weight-grows : (m n : ℕ) → m ≤ n → weight m ≤ weight n
