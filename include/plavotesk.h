@@ -158,7 +158,7 @@ PLV_ANSWERS uint8_t plv_int24_count(uint32_t code, uint32_t *count);
 PLV_ANSWERS uint8_t plv_log8_code(uint64_t count, uint8_t *code);
 
 /* The smallest and the largest count that give a logarithm byte, and some 1: a byte stands for a run of counts, not for one count.
- * some 0 means that no count gives the byte, and both ends are then 0. */
+ * Look at some first: some 0 means that no count gives the byte, and both ends are then 0. */
 void plv_log8_counts(uint8_t code, uint64_t *low, uint64_t *high, uint8_t *some);
 
 /* The seconds that a level, 0 to 7, lasts; 19. */
