@@ -103,8 +103,12 @@ bits-some d (led s k x) = omega arith
 coded-length : (s ones : ℕ) (after : List ℕ) → length (coded s ones after) ≡ 3 + ones + length after
 coded-length s ones after = omega (arith, length-append (replicate ones 1) (0 ∷ after), length-replicate {A = ℕ} ones 1)
 
--- no code is longer than two bits a one of the longest run, and five
-pub bits-few : (top d : ℕ) (shape : Shape) → 4 ≤ top → Drop d → Valid top d shape → length (bits d shape) ≤ 2 * longestRun top + 5
+-- the bits of the longest code: two for each one of the longest run, and five
+abbrev pub longestCode : ℕ → ℕ
+longestCode top = 2 * longestRun top + 5
+
+-- no code is longer
+pub bits-few : (top d : ℕ) (shape : Shape) → 4 ≤ top → Drop d → Valid top d shape → length (bits d shape) ≤ longestCode top
 bits-few top d nought t dr v = omega arith
 bits-few top d (small s x) t dr v = omega (arith, coded-length s 0 (toBits (4 - d) x), length-toBits (4 - d) x)
 bits-few top d (led s k x) t dr v =

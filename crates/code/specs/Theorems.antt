@@ -48,18 +48,24 @@ part-that-counts : (bytes : List ℕ) (at n : ℕ) → at + n ≤ length (bitsTh
 unfolding bitsThatCount
 part-that-counts bytes at n h = part-of-take n at (2 ^ 63) (bitsOf bytes) (omega (arith, length-take (2 ^ 63) (bitsOf bytes)))
 
+-- where a code stands in bytes, it is first among the bits from its position on
+pub stands-first : (bytes : List ℕ) (at : ℕ) (code : List ℕ) → at + length code ≤ length (bitsThatCount bytes) → bitsAt bytes at (length code) ≡ code
+    → drop at (bitsThatCount bytes) ≡ code ++ drop (length code) (drop at (bitsThatCount bytes))
+stands-first bytes at code h e =
+    let n : ℕ = length code in
+    let l : List ℕ = drop at (bitsThatCount bytes) in
+    sym (take-append-drop n l) ∙ ap (λ (k : List ℕ). k ++ drop n l) (part-that-counts bytes at n h ∙ e)
+
 -- where a shape's bits stand in bytes, that shape is read, with the position after it
 pub reads-shape : (bytes : List ℕ) (at d : ℕ) (shape : Shape) → dropKnown d ≡ true → Valid greatestPlace d shape
     → at + length (bits d shape) ≤ length (bitsThatCount bytes) → bitsAt bytes at (length (bits d shape)) ≡ bits d shape
     → shapeMeans bytes at d ≡ accepted (valuesOf d shape (at + length (bits d shape)))
 reads-shape bytes at d shape t v h e =
-    let n : ℕ = length (bits d shape) in
     let l : List ℕ = drop at (bitsThatCount bytes) in
     let inside : ltb (length (bitsThatCount bytes)) at ≡ false = le-ltb (length (bitsThatCount bytes)) at (omega arith) in
     ap₂ (λ (a b : Bool). pick a (pick b (refused 9) (answerOf d at (parse greatestPlace d l))) (refused 8)) t inside
-    ∙ ap (λ (k : List ℕ). answerOf d at (parse greatestPlace d k))
-    (sym (take-append-drop n l) ∙ ap (λ (k : List ℕ). k ++ drop n l) (part-that-counts bytes at n h ∙ e))
-    ∙ ap (answerOf d at) (parse-bits greatestPlace d shape (drop n l) v)
+    ∙ ap (λ (k : List ℕ). answerOf d at (parse greatestPlace d k)) (stands-first bytes at (bits d shape) h e)
+    ∙ ap (answerOf d at) (parse-bits greatestPlace d shape (drop (length (bits d shape)) l) v)
 
 -- what was read at a position: a valid shape, whose bits stand there
 pub record ReadAt (bytes : List ℕ) (at d : ℕ) (v : ShapeValues) : Type 0 where

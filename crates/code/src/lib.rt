@@ -9,8 +9,14 @@ ghost use Rattle.code.specs.Meaning.{bitsThatCount, dropKnown, largest};
 ghost use Rattle.code.specs.Answers.{packedPaper, unpackedPaper, refusalNumber, reasonOf};
 ghost use Rattle.code.specs.Promise.{SignPromise, PowerPromise, BitPromise};
 
+// The greatest place of a leading one: the one number from which the limits follow.
+pub const GREATEST_PLACE: u32 = 24;
+
 // The largest magnitude that is packed.
-pub const LARGEST: u32 = 33554431;
+pub const LARGEST: u32 = (1 << (GREATEST_PLACE + 1)) - 1;
+
+// The longest run of ones that is taken.
+pub const LONGEST_RUN: u32 = (GREATEST_PLACE - 1) / 2;
 
 // What writing a code answers: the next bit position, or why nothing was written.
 pub enum Packed {

@@ -6,9 +6,8 @@ use mathlib.Core.List.{List, [], _∷_}
 use Prim.Native.Nat.{ℕ}
 use lib.Dec.{eqb}
 use lib.IntN.{ℤ, pos, negsuc, natAbs}
-use lib.ListN.{length}
 use Rattle.ground.specs.Paper.{Paper, accepted, refusal}
-use Rattle.code.specs.Meaning.{codeOf, decoded, packMeans, signOf, leadingIn, shapeOf}
+use Rattle.code.specs.Meaning.{codeOf, decoded, packMeans, signOf, leadingIn, shapeOf, bitsThatCount}
 use Rattle.format.specs.Meaning.{codeMeans, floatValue}
 use Rattle.cadence.specs.Meaning.{beginningMeans, endingMeans}
 use Rattle.pages.specs.Meaning.{cellsOf}
@@ -51,7 +50,7 @@ refuses (refusal n carried) m = eqb n m
 abbrev pub holds : Case → Bool
 holds (packs drop v bits) = sameList (codeOf drop v) bits
 holds (decodes drop v w) = sameNumber (decoded drop v) w
-holds (packsTo drop v n) = eqb (length (codeOf drop v)) n
+holds (packsTo drop v n) = says (packMeans (0 ∷ 0 ∷ 0 ∷ 0 ∷ []) 0 v drop .answer) n
 holds (refusesNumber drop v n) = refuses (packMeans (0 ∷ 0 ∷ 0 ∷ 0 ∷ []) 0 v drop .answer) n
 holds (float16 count code) = says (codeMeans 12 134217728 count) code
 holds (float8 count code) = says (codeMeans 3 17179869184 count) code
@@ -92,5 +91,5 @@ all (x ∷ xs) = holds x && all xs
 
 -- the one claim: every starred case holds
 pub starred-hold : all starred ≡ true
-unfolding leadingIn shapeOf lib.Count.leadingZeros
+unfolding leadingIn shapeOf bitsThatCount lib.Count.leadingZeros
 starred-hold = refl

@@ -20,7 +20,7 @@ use Rattle.ground.specs.Outcome.{Outcome, outcomeOf, accept}
 use Rattle.code.specs.Answers.{packedPaper}
 use Rattle.code.specs.Promise.{PackPromise}
 use Rattle.code.specs.Meaning.{greatestPlace, largest, codeOf, signOf, shapeOfNumber, bytesWith, putAt, packMeans, bitsThatCount}
-use Rattle.code.specs.Shapes.{Drop, drop-is-known}
+use Rattle.code.specs.Shapes.{Drop, drop-is-known, longestCode}
 use Rattle.code.specs.Magnitudes.{places, number-valid}
 use Rattle.code.specs.Theorems.{packs, put-stands, allBits-shape}
 use Rattle.code.specs.declared.Packed.{Packed}
@@ -185,11 +185,10 @@ module _ {buffer left : List ℕ} {w v : ℤ} {d k : ℕ} {packed : Packed} (fou
 
 -- a space and a code are put
 pub spaced-put : {room one after : List ℕ} {at m r d : ℕ} (w v : ℤ) → w ≡ v → natAbs v ≤ largest → Drop d → at ≤ length room
-    → Put room at (32 ∷ []) m one → Put one m (codeText d w) r after → (Put room at (32 ∷ codeText d v) r after) × (r ≤ at + 28)
+    → Put room at (32 ∷ []) m one → Put one m (codeText d w) r after → (Put room at (32 ∷ codeText d v) r after) × (r ≤ at + 1 + longestCode greatestPlace)
 spaced-put {room} {one} {after} {at} {m} {r} {d} w v e small dr h p q =
     let all : Put room at (32 ∷ codeText d v) r after = subst (λ (z : ℤ). Put room at (32 ∷ codeText d z) r after) e (put-then p q (put-fits p h)) in
-    let few : length (32 ∷ codeText d v) ≤ 28 = omega (arith, code-text-few d v dr small) in
-    (all, put-ends all few)
+    (all, omega (arith, all .place, code-text-few d v dr small))
 
 -- value, both codes and the newline are put
 pub number-put : {room one two three after : List ℕ} {at k l m r : ℕ} (w v : ℤ) → w ≡ v → at ≤ length room

@@ -13,9 +13,9 @@ use Rattle.ground.specs.Choice.{pick-elim}
 use Rattle.ground.specs.Paper.{Paper, accepted, refusal}
 use Rattle.ground.specs.Putting.{put, put-next}
 use Rattle.code.specs.Meaning.{codeOf, shapeOfNumber, greatestPlace, largest, signOf}
-use Rattle.code.specs.Shapes.{Drop, none, three, bits-few}
+use Rattle.code.specs.Shapes.{Drop, none, three, longestCode, bits-few}
 use Rattle.code.specs.Magnitudes.{places, number-valid}
-use Rattle.lines.specs.Meaning.{shortest, valueText, codeText, numberText}
+use Rattle.lines.specs.Meaning.{shortest, valueText, codeText, numberText, enough}
 
 -- the text was put from a place on, and the place after it is answered
 pub record Put (room : List ℕ) (at : ℕ) (text : List ℕ) (next : ℕ) (after : List ℕ) : Type 0 where
@@ -73,13 +73,13 @@ put-ends p h = omega (arith, p .place)
 
 -- ---- how long each piece is
 
--- a code is at most 27 bits long
-pub code-few : (d : ℕ) (v : ℤ) → Drop d → natAbs v ≤ largest → length (codeOf d v) ≤ 27
+-- a code is no longer than the longest
+pub code-few : (d : ℕ) (v : ℤ) → Drop d → natAbs v ≤ largest → length (codeOf d v) ≤ longestCode greatestPlace
 code-few d v dr h = bits-few greatestPlace d (shapeOfNumber d v) (places .from) dr (number-valid greatestPlace places d v dr h)
 
 -- and so is its text
-pub code-text-few : (d : ℕ) (v : ℤ) → Drop d → natAbs v ≤ largest → length (codeText d v) ≤ 27
-code-text-few d v dr h = subst (λ (n : ℕ). n ≤ 27) (sym (length-map (codeOf d v) (λ b. 48 + b))) (code-few d v dr h)
+pub code-text-few : (d : ℕ) (v : ℤ) → Drop d → natAbs v ≤ largest → length (codeText d v) ≤ longestCode greatestPlace
+code-text-few d v dr h = subst (λ (n : ℕ). n ≤ longestCode greatestPlace) (sym (length-map (codeOf d v) (λ b. 48 + b))) (code-few d v dr h)
 
 -- a shortest decimal has as many digits as it may at most
 shortest-few : (places n : ℕ) → length (shortest places n) ≤ places
@@ -95,8 +95,8 @@ value-few v =
     pick-elim (λ (l : List ℕ). length l ≤ 9) (eqb (signOf v) 1) _ _ (λ e. omega (arith, shortest-few 8 (natAbs v)))
     (λ e. omega (arith, shortest-few 8 (natAbs v)))
 
--- a number's line is at most 66 bytes long
-pub number-few : (v : ℤ) → natAbs v ≤ largest → length (numberText v) ≤ 66
+-- a number's line fits the room that is enough for any answer
+pub number-few : (v : ℤ) → natAbs v ≤ largest → length (numberText v) ≤ enough
 number-few v h =
     let tail : List ℕ = 32 ∷ (codeText 3 v ++ (10 ∷ [])) in
     omega (

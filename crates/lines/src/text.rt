@@ -6,8 +6,8 @@ ghost use lib.IntN.{natAbs};
 ghost use lib.ListN.{length, take};
 ghost use Rattle.ground.specs.Bits.{bitsOf};
 ghost use Rattle.code.specs.Answers.{packedPaper};
-ghost use Rattle.code.specs.Meaning.{largest};
-ghost use Rattle.code.specs.Shapes.{Drop};
+ghost use Rattle.code.specs.Meaning.{greatestPlace, largest};
+ghost use Rattle.code.specs.Shapes.{Drop, longestCode};
 ghost use Rattle.lines.specs.Meaning.{enough, shortest, codeText, valueText, numberText};
 ghost use Rattle.lines.specs.Texts.{Put, nextOf};
 use code::Packed;
@@ -39,7 +39,7 @@ fn put_value(room: &mut [u8], at: usize, v: i32) -> usize
 // Puts a space and a code.
 fn put_spaced(room: &mut [u8], at: usize, v: i32, drop: u8) -> usize
     requires { ⌜ (at + 33 ≤ length (now room)) × (natAbs v ≤ largest) × Drop drop ⌝ }
-    ensures { λ r. ⌜ (Put (now (room .entry)) at (32 ∷ codeText drop v) r (now (room .exit))) × (r ≤ at + 28) ⌝ }
+    ensures { λ r. ⌜ (Put (now (room .entry)) at (32 ∷ codeText drop v) r (now (room .exit))) × (r ≤ at + 1 + longestCode greatestPlace) ⌝ }
 {
     let after = put_byte(room, at, 32);
     put_code(room, after, v, drop)

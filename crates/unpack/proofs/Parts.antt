@@ -10,7 +10,7 @@ use lib.ListN.{length, length-append, length-drop, take, drop, getD, drop-of-len
 use lib.Seq.{drop-cons}
 use lib.Dec.{ltb, eqb}
 use lib.IntN.{ℤ}
-use borrow.Author.Tests.{lt-ltb, le-ltb, le-leb, ne-eqb}
+use borrow.Author.Tests.{lt-ltb, le-ltb, le-leb, lt-leb, ne-eqb}
 use Rattle.ground.specs.Choice.{pick}
 use Rattle.ground.specs.Paper.{Paper, accepted, refused, mapped}
 use Rattle.code.specs.Meaning.{led, Parsed, found, ranOut, redundantZero, runTooLong, ShapeValues, bitsThatCount, fromBits, filled, signed}
@@ -179,6 +179,11 @@ parity-there l at end d s (suc (suc ones)) p e h a b q r =
     r
     ∙ ap₂ (λ (k : List ℕ) (n : ℕ). restAnswer d end (ledThen greatestPlace d s (2 * j + 1 + n) k)) (ap (λ (n : ℕ). drop n l) (add-one at)) q
     ∙ ap (λ (k : List ℕ). restAnswer d end (parityThen greatestPlace d s j k)) (sym (drop-cons l at 0 (omega arith)))
+
+-- a place that is above the greatest: the run is too long, whatever follows
+pub parity-above : (l : List ℕ) (at end d s ones p : ℕ) → end ≡ length l → at < end → (ones ≡ 0 → ⊥) → (ones ≡ 1 → ⊥) → p ≡ getD l at 0
+    → greatestPlace < 2 * ones + 1 + p → refused 11 ≡ restAnswer d end (afterRun greatestPlace d s ones (drop at l))
+parity-above l at end d s ones p e h a b q above = parity-there l at end d s ones p e h a b q (rw (lt-leb (2 * ones + 1 + p) greatestPlace above))
 
 -- ---- the run of ones
 

@@ -1,4 +1,6 @@
 // Reading a code bit by bit: each function answers for what follows one part of the code.
+use code::GREATEST_PLACE;
+use code::LONGEST_RUN;
 use code::Refusal;
 use code::ShapeAnswer;
 ghost use mathlib.Core.Path.{_≡_};
@@ -9,9 +11,6 @@ ghost use Rattle.ground.specs.Choice.{pick};
 ghost use Rattle.code.specs.Meaning.{bitsThatCount, parse, afterSign, afterRun, ledThen, fromBits, filled, greatestPlace, longestRun};
 ghost use Rattle.code.specs.Answers.{shapePaper};
 ghost use Rattle.unpack.specs.Steps.{restAnswer, zeroAnswer, Place, LedPlace};
-
-// The longest run of ones that is taken.
-const LONGEST_RUN: u32 = 11;
 
 // The bit at a position that counts.
 fn bit(bytes: &[u8], at: u64) -> u8
@@ -94,9 +93,12 @@ fn after_run(bytes: &[u8], at: u64, end: u64, drop: u8, sign: u32, ones: u32) ->
     if end <= at {
         return ShapeAnswer::Refused(Refusal::RanOut);
     }
-    let parity = bit_wide(bytes, at);
+    let place = 2 * ones + 1 + bit_wide(bytes, at);
+    if GREATEST_PLACE < place {
+        return ShapeAnswer::Refused(Refusal::RunTooLong);
+    }
     let width = ones + 1 - code::wide(drop);
-    led(bytes, at + 1, end, drop, sign, 2 * ones + 1 + parity, width)
+    led(bytes, at + 1, end, drop, sign, place, width)
 }
 
 // A magnitude under 16: its field, drop 0's redundant zero and drop 3's 5.

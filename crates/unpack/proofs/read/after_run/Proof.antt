@@ -1,10 +1,10 @@
--- `unpack::read::after_run` meets its contract: no ones, one, or more with a parity.
+-- `unpack::read::after_run` meets its contract: no ones, one, or more with a parity, which tells the place.
 -- Assumes nothing.
 use mathlib.Core.Path.{_∙_}
 use native.Mathlib.Omega.{arith}
 use borrow.Author.Needs.{needs}
 use Rattle.code.specs.Shapes.{drop-small}
-use Rattle.unpack.proofs.Parts.{run-is, run-wide, parity-out, parity-there}
+use Rattle.unpack.proofs.Parts.{run-is, run-wide, parity-out, parity-there, parity-above}
 use Rattle.unpack.proofs.read.after_run.Statement.{statement}
 use Rattle.unpack.proofs.read.after_run.Tie as tie
 
@@ -25,15 +25,25 @@ returns-3 c =
     let at-one = at-two .before in
     parity-out _ _ _ _ _ _ (at-one .before .before .pre .0 .end-is) (c .if3 .taken) (at-one .if1 .left) (at-two .if2 .left)
 
+returns-4 : tie.Need-returns-4
+returns-4 c =
+    let at-bit = c .before in
+    let at-three = at-bit .before in
+    let at-two = at-three .before in
+    let at-one = at-two .before in
+    parity-above _ _ _ _ _ _ _ (at-one .before .before .pre .0 .end-is) (at-three .if3 .left) (at-one .if1 .left) (at-two .if2 .left)
+    (at-bit .bit-wide .ensures .0) (c .if4 .taken)
+
 sub-width : tie.Need-sub-width
 sub-width c =
-    let at-two = c .before .before .before in
+    let at-two = c .before .before .before .before in
     let at-one = at-two .before in
     omega (arith, drop-small (at-one .before .before .pre .0 .drop-is), c .wide2 .ensures, at-one .if1 .left, at-two .if2 .left)
 
 led-requires-2 : tie.Need-led-requires-2
 led-requires-2 c κs =
-    let at-bit = c .before in
+    let at-four = c .before in
+    let at-bit = at-four .before in
     let at-three = at-bit .before in
     let at-two = at-three .before in
     let at-one = at-two .before in
@@ -44,13 +54,13 @@ led-requires-2 c κs =
       drop-is = p .0 .drop-is;
       sign = p .1;
       four = omega (arith, at-one .if1 .left, at-two .if2 .left);
-      top = omega (arith, p .2, at-bit .bit-wide .ensures .1);
+      top = omega (arith, at-four .if4 .left);
       width-is = run-wide _ _ _ _ (p .0 .drop-is) (c .wide2 .ensures) (omega (arith, at-one .if1 .left, at-two .if2 .left)) (at-bit .bit-wide .ensures .1);
     }
 
-returns-4 : tie.Need-returns-4
-returns-4 c =
-    let at-bit = c .before .before in
+returns-5 : tie.Need-returns-5
+returns-5 c =
+    let at-bit = c .before .before .before in
     let at-three = at-bit .before in
     let at-two = at-three .before in
     let at-one = at-two .before in
@@ -60,6 +70,6 @@ returns-4 c =
 pub after-run-spec : {M : Type 1} → statement M
 after-run-spec =
     tie.close
-    (tie.spec (λ c κs. search needs) returns (λ c κs. search needs) sub-led (λ c κs. search needs) returns-2 returns-3 (λ c κs. search needs)
-    (λ c. search needs) (λ c κs. search needs) sub-width (λ c. search needs) (λ c. search needs) (λ c. search needs) (λ c. search needs) led-requires-2
-    returns-4)
+    (tie.spec (λ c κs. search needs) returns (λ c κs. search needs) sub-led (λ c κs. search needs) returns-2 returns-3 (λ c. search needs)
+    (λ c. search needs) (λ c κs. search needs) (λ c. search needs) returns-4 (λ c. search needs) (λ c κs. search needs) sub-width (λ c. search needs)
+    led-requires-2 returns-5)
