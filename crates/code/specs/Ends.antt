@@ -15,10 +15,10 @@ use Rattle.code.specs.Meaning.{codeOf, decoded, packMeans, placeMeans, d
 pub record EndsMean : Type 0 where
   pub zero0 : (codeOf 0 (pos 0) ≡ 0 ∷ []) × (decoded 0 (pos 0) ≡ pos 0)
   pub zero3 : (codeOf 3 (pos 0) ≡ 0 ∷ []) × (decoded 3 (pos 0) ≡ pos 0)
-  pub largest0 : (length (codeOf 0 (pos 33554431)) ≡ 27) × (decoded 0 (pos 33554431) ≡ pos 33552383)
-  pub largest3 : (length (codeOf 3 (pos 33554431)) ≡ 24) × (decoded 3 (pos 33554431) ≡ pos 33538047)
-  pub least0 : (length (codeOf 0 (negsuc 33554430)) ≡ 27) × (decoded 0 (negsuc 33554430) ≡ negsuc 33552382)
-  pub least3 : (length (codeOf 3 (negsuc 33554430)) ≡ 24) × (decoded 3 (negsuc 33554430) ≡ negsuc 33538046)
+  pub largest0 : (length (codeOf 0 (pos 67108863)) ≡ 29) × (decoded 0 (pos 67108863) ≡ pos 67106815)
+  pub largest3 : (length (codeOf 3 (pos 67108863)) ≡ 26) × (decoded 3 (pos 67108863) ≡ pos 67092479)
+  pub least0 : (length (codeOf 0 (negsuc 67108862)) ≡ 29) × (decoded 0 (negsuc 67108862) ≡ negsuc 67106814)
+  pub least3 : (length (codeOf 3 (negsuc 67108862)) ≡ 26) × (decoded 3 (negsuc 67108862) ≡ negsuc 67092478)
 
 -- each of them holds by computing
 pub ends-mean : EndsMean
@@ -48,12 +48,12 @@ refuses v over buffer at d =
     ap (λ (b : Bool). pick b (placeMeans buffer at (codeOf d v)) (refuse 8 buffer)) (fails (dropKnown d) (leb (natAbs v) largest) over)
 
 -- just over the range
-pub refuses-over : Refuses8 (pos 33554432)
-refuses-over = refuses (pos 33554432) refl
+pub refuses-over : Refuses8 (pos 67108864)
+refuses-over = refuses (pos 67108864) refl
 
 -- just under the range
-pub refuses-under : Refuses8 (negsuc 33554431)
-refuses-under = refuses (negsuc 33554431) refl
+pub refuses-under : Refuses8 (negsuc 67108863)
+refuses-under = refuses (negsuc 67108863) refl
 
 -- the smallest i32
 pub refuses-smallest : Refuses8 (negsuc 2147483647)

@@ -17,15 +17,15 @@ use Rattle.ground.specs.Putting.{put}
 abbrev pub dropKnown : ℕ → Bool
 dropKnown d = pick (eqb d 0) true (eqb d 3)
 
--- the greatest place of a leading one, from which every limit of packed codes follows
+-- the greatest place of a leading one, from which every limit of packed codes follows: that of the longest run, 12 ones, with the parity of an odd place
 abbrev pub greatestPlace : ℕ
-greatestPlace = 24
+greatestPlace = 25
 
 -- the largest magnitude whose leading one is not above a place
 abbrev pub largestTo : ℕ → ℕ
 largestTo top = 2 ^ suc top - 1
 
--- "|v| at most 33,554,431"
+-- "|v| at most" 67,108,863: 2026-06, "Raise the packed limit to that"
 abbrev pub largest : ℕ
 largest = largestTo greatestPlace
 
@@ -33,7 +33,7 @@ largest = largestTo greatestPlace
 abbrev pub onesOf : ℕ → ℕ
 onesOf k = (k - 1) / 2
 
--- "A reader that has seen 12 ones after the sign refuses": the longest run of ones that is taken
+-- "A reader that has seen" 13 "ones after the sign refuses": 2026-06, "11 now comes at the 13th one"; the longest run of ones that is taken
 abbrev pub longestRun : ℕ → ℕ
 longestRun top = onesOf top
 
@@ -168,7 +168,7 @@ field w then l = pick (ltb (length l) w) ranOut (then (fromBits (take w l)) (dro
 abbrev pub smallFound : ℕ → ℕ → ℕ → List ℕ → Parsed
 smallFound d s x rest = pick (eqb d 0 && eqb x 0) redundantZero (found (small s x) rest)
 
--- the field under a leading one; a place above the greatest is refused as a run that is too long
+-- the field under a leading one; a place above the greatest is refused as a run that is too long: "or after 12 ones, a zero and a one"
 abbrev pub ledThen : ℕ → ℕ → ℕ → ℕ → List ℕ → Parsed
 ledThen top d s k l = pick (leb k top) (field (width d k) (λ x. found (led s k x)) l) runTooLong
 

@@ -10,7 +10,7 @@ ghost use Rattle.code.specs.Answers.{packedPaper, unpackedPaper, refusal
 ghost use Rattle.code.specs.Promise.{SignPromise, PowerPromise, BitPromise};
 
 // The greatest place of a leading one: the one number from which the limits follow.
-pub const GREATEST_PLACE: u32 = 24;
+pub const GREATEST_PLACE: u32 = 25;
 
 // The largest magnitude that is packed.
 pub const LARGEST: u32 = (1 << (GREATEST_PLACE + 1)) - 1;

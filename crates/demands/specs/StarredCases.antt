@@ -60,7 +60,7 @@ holds (visits address xsize ystride ysize cells) =
 holds (begins second level) = says (beginningMeans second) level
 holds (ends second level) = says (endingMeans second) level
 
--- the starred cases, in document 01's order
+-- the starred cases, in document 01's order; 2026-06, "In document 01's case, 33,554,432 is now packed", with the new limit and one past it
 abbrev pub starred : List Case
 starred =
     packs 0 (pos 0) (0 ∷ [])
@@ -73,7 +73,9 @@ starred =
     ∷ packs 3 (pos 4) (1 ∷ 0 ∷ 0 ∷ 0 ∷ [])
     ∷ decodes 3 (pos 4) (pos 5)
     ∷ packsTo 0 (pos 33554431) 27
-    ∷ refusesNumber 0 (pos 33554432) 8
+    ∷ packsTo 0 (pos 33554432) 29
+    ∷ packsTo 0 (pos 67108863) 29
+    ∷ refusesNumber 0 (pos 67108864) 8
     ∷ float16 8191 0x1FFF
     ∷ float16 8193 0x2000
     ∷ float8 100 36

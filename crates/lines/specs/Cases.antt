@@ -35,7 +35,15 @@ example = refl
 pub others : (lineMeans (48 ∷ 48 ∷ 48 ∷ 48 ∷ 48 ∷ 48 ∷ 48 ∷ 48 ∷ 53 ∷ []) ≡ refusedText)
     × (lineMeans (43 ∷ 53 ∷ []) ≡ refusedText)
     × (lineMeans (53 ∷ 13 ∷ []) ≡ refusedText)
-    × (lineMeans (51 ∷ 51 ∷ 53 ∷ 53 ∷ 52 ∷ 52 ∷ 51 ∷ 50 ∷ []) ≡ refusedText)
+    × (lineMeans (54 ∷ 55 ∷ 49 ∷ 48 ∷ 56 ∷ 56 ∷ 54 ∷ 52 ∷ []) ≡ refusedText)
     × (lineMeans (48 ∷ 48 ∷ 48 ∷ 48 ∷ 48 ∷ 48 ∷ 48 ∷ 53 ∷ []) ≡ lineMeans (53 ∷ []))
 unfolding lineMeans leadingIn shapeOf shortest
 others = (refl, refl, refl, refl, refl)
+
+-- the longest line: `-67108863`, both codes with 12 ones
+pub longest-line : lineMeans (45 ∷ 54 ∷ 55 ∷ 49 ∷ 48 ∷ 56 ∷ 56 ∷ 54 ∷ 51 ∷ [])
+    ≡ 45 ∷ 54 ∷ 55 ∷ 49 ∷ 48 ∷ 56 ∷ 56 ∷ 54 ∷ 51 ∷ 32 ∷ 49 ∷ 49 ∷ 49 ∷ 49 ∷ 49 ∷ 49 ∷ 49 ∷ 49 ∷ 49 ∷ 49 ∷ 49 ∷ 49 ∷ 49 ∷ 49 ∷ 48 ∷ 48 ∷ 49 ∷ 49 ∷ 49
+    ∷ 49 ∷ 49 ∷ 49 ∷ 49 ∷ 49 ∷ 49 ∷ 49 ∷ 49 ∷ 49 ∷ 49 ∷ 32 ∷ 49 ∷ 49 ∷ 49 ∷ 49 ∷ 49 ∷ 49 ∷ 49 ∷ 49 ∷ 49 ∷ 49 ∷ 49 ∷ 49 ∷ 49 ∷ 49 ∷ 48 ∷ 48 ∷ 49 ∷ 49
+    ∷ 49 ∷ 49 ∷ 49 ∷ 49 ∷ 49 ∷ 49 ∷ 49 ∷ 49 ∷ 10 ∷ []
+unfolding lineMeans leadingIn shapeOf shortest
+longest-line = refl

@@ -26,7 +26,7 @@ pub nought-is-a-band : readingMeans (240 ∷ []) 4 3 ≡ accepted (record { read
 unfolding parse afterSign bitsThatCount
 nought-is-a-band = refl
 
--- "Rate: the code's refusal, then a negative number's 8, then 19": at level 8 a drop of 1, no bits, a redundant zero, twelve ones, -16, and 5
+-- "Rate: the code's refusal, then a negative number's 8, then 19": at level 8 a drop of 1, no bits, a redundant zero, thirteen ones, -16, and 5
 pub rate-refusals : rateMeans (138 ∷ []) 0 1 8
     ∷ rateMeans [] 0 0 8
     ∷ rateMeans (128 ∷ []) 0 0 8
