@@ -10,3 +10,5 @@ pub mod Positions
 pub mod OneOutcome
 pub mod Theorems
 pub mod Ends
+pub mod OldReader
+pub mod OnFile

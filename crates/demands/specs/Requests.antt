@@ -7,3 +7,11 @@ pub use Rattle.format.specs.Logarithms.{log8-to-the-letter, log8-from-the-lette
 pub use Rattle.format.specs.RoundTrip.{log8-order}
 -- "from a byte, the smallest and largest counts that give it, or a plain word that no count does": one relation seen from two sides
 pub use Rattle.format.specs.RoundTrip.{log8-encloses, log8-enclosed, log8-ends, log8-none}
+-- 2026-06, "Codes already on file keep their bits and meaning: show that every code accepted before decodes as before"
+pub use Rattle.code.specs.OnFile.{reads-as-before, onward-as-before, decodes-as-before, packs-as-before, unpack-as-before, pack-as-before}
+-- and no other answer moved: every answer of the old reader but 11, and every outcome of the old writer but 8, is today's
+pub use Rattle.code.specs.OnFile.{shape-stands, onward-stands, pack-stands}
+-- "New ones have 12 ones, a zero, a zero and, for drop 0, 13 further bits, 29 in all. The old reader refuses those by 11"
+pub use Rattle.code.specs.OnFile.{new-codes, new-too-long, written-too-long, new-was-refused}
+-- "11 now comes at the 13th one, or after 12 ones, a zero and a one"
+pub use Rattle.code.specs.OnFile.{thirteenth-one, one-after-twelve, twelve-and-nothing}
