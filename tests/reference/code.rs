@@ -1,8 +1,18 @@
-//! Document 01, "Packed codes": a number to its code and back, for both drops, and readings and rates of what was read.
+//! Document 01, "Packed codes", and request 2026-06, "Larger counts": a number to its code and back, for both drops, and readings and
+//! rates of what was read.
+
+/// The largest number that is packed, either way.
+pub const LARGEST: i32 = 67_108_863;
+
+/// The largest before request 2026-06: codes on file go up to it.
+pub const LARGEST_ON_FILE: i32 = 33_554_431;
+
+/// The most ones that follow the sign; behind so many stand a zero and a zero.
+pub const LONGEST: usize = 12;
 
 /// The code of a number as text of bits, or None outside the rule.
 pub fn code(v: i64, drop: u8) -> Option<String> {
-    if (drop != 0 && drop != 3) || v.abs() > 33_554_431 {
+    if (drop != 0 && drop != 3) || v.abs() > LARGEST as i64 {
         return None;
     }
     let m = v.unsigned_abs();
@@ -78,7 +88,7 @@ pub fn read(bytes: &[u8], at: u64, drop: u8) -> Result<Read, u8> {
     let mut ones = 0;
     while bits.next()? == 1 {
         ones += 1;
-        if ones == 12 {
+        if ones > LONGEST {
             return Err(11);
         }
     }
@@ -95,6 +105,9 @@ pub fn read(bytes: &[u8], at: u64, drop: u8) -> Result<Read, u8> {
         (3 - drop, 1 + drop, 1)
     } else {
         let even = bits.next()? as usize;
+        if ones == LONGEST && even == 1 {
+            return Err(11);
+        }
         let k = 2 * ones + 1 + even;
         let sent = ones + 1 - drop;
         (sent, k - sent, 1)
@@ -117,6 +130,13 @@ pub fn pack(buffer: &mut [u8], at: u64, v: i32, drop: u8) -> Result<u64, u8> {
         *byte = if bit == b'1' { *byte | mask } else { *byte & !mask };
     }
     Ok(end)
+}
+
+/// Bits, as text, laid into bytes so that nothing stands behind them: those bytes, and the position of the first bit.
+pub fn at_the_end(bits: &str) -> (Vec<u8>, u64) {
+    let number = bits.bytes().fold(0, |number: u64, bit| number * 2 + (bit - b'0') as u64);
+    let count = bits.len().div_ceil(8);
+    (number.to_be_bytes()[8 - count..].to_vec(), (8 * count - bits.len()) as u64)
 }
 
 /// The edges of a reading, or its refusal; a negative number has none (8). "not under 0".

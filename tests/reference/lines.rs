@@ -1,6 +1,6 @@
 //! Document 01, "Cases", last paragraph: the code program.
 
-use crate::code;
+use crate::code::{self, LARGEST, LARGEST_ON_FILE};
 use crate::random::Random;
 
 /// What a line prints.
@@ -29,16 +29,17 @@ pub fn printed(input: &[u8]) -> String {
     "value drop0 drop3\n".to_string() + &lines.iter().map(|line| answer(line)).collect::<String>()
 }
 
-/// A hard input: long lines, lines across what is read at once, both ends of the range and one past them, bytes over 127, every kind of
-/// other line, and no last newline.
+/// A hard input: long lines, lines across what is read at once, both ends of the range and one past them, now and before request
+/// 2026-06, bytes over 127, every kind of other line, and no last newline.
 pub fn hard() -> Vec<u8> {
     let mut random = Random::new(5);
     let mut input = Vec::new();
     let plain = [
         "", "-", "--1", "+5", "5\r", " 5", "5 ", "-0", "0", "00000000", "000000000", "00000005", "-00000016", "1-", "x", "12345678", "123456789",
-        "33554431", "33554432", "-33554431", "-33554432", "99999999", "-99999999", "-1", "-2", "-3", "-4", "3", "4", "15", "16", "31", "32",
+        "99999999", "-99999999", "-1", "-2", "-3", "-4", "3", "4", "15", "16", "31", "32",
     ];
-    for line in plain {
+    let ends = [LARGEST_ON_FILE, LARGEST].into_iter().flat_map(|end| [end, end + 1, -end, -end - 1]);
+    for line in plain.into_iter().map(String::from).chain(ends.map(|end| end.to_string())) {
         input.extend(line.as_bytes());
         input.push(b'\n');
     }
@@ -58,6 +59,6 @@ pub fn hard() -> Vec<u8> {
     while input.len() < 131_070 {
         input.push(b'x');
     }
-    input.extend(b"\n-33554431");
+    input.extend(format!("\n-{LARGEST}").bytes());
     input
 }

@@ -1,7 +1,7 @@
 //! The records that the program `vectors` is fed, and the lines that it must print: what the exported calls do not reach.
 //! A record is a letter, a drop, how many bytes it has, eight bytes of bit position, and those bytes.
 
-use crate::code;
+use crate::code::{self, LARGEST, LARGEST_ON_FILE, LONGEST};
 use crate::random::Random;
 
 fn record(letter: u8, drop: u8, at: u64, bytes: &[u8]) -> Vec<u8> {
@@ -94,11 +94,42 @@ fn singles(random: &mut Random, all: &mut Vec<u8>) {
     }
 }
 
+/// Codes of the longest run of ones, both ends of the range among them, and what is past it: parity 1, and one more one. Each with either
+/// sign and both drops, cut at every bit.
+fn longest(all: &mut Vec<u8>) {
+    let (longest, longer) = ("1".repeat(LONGEST), "1".repeat(LONGEST + 1));
+    for run in [longest.clone() + "00", longest + "01", longer + "00"] {
+        for (s, field) in [(0, "0"), (0, "1"), (1, "0"), (1, "1")] {
+            let bits = format!("1{s}{run}{}", field.repeat(LONGEST + 1));
+            for count in 0..=bits.len() {
+                let (bytes, at) = code::at_the_end(&bits[..count]);
+                for drop in [0, 3] {
+                    all.extend(record(b'r', drop, at, &bytes));
+                }
+            }
+        }
+    }
+}
+
+/// Both ends of the range, now and before request 2026-06, and the first code past what is on file: in one run.
+fn ends(all: &mut Vec<u8>) {
+    for drop in [0, 3] {
+        let (mut bytes, mut next) = (vec![0; 24], 5);
+        for value in [LARGEST, LARGEST_ON_FILE, LARGEST_ON_FILE + 1].into_iter().flat_map(|end| [end, -end]) {
+            next = code::pack(&mut bytes, next, value, drop).unwrap();
+        }
+        bytes.truncate(next.div_ceil(8) as usize);
+        all.extend(record(b'm', drop, 5, &bytes));
+    }
+}
+
 /// Every stored record, in order.
 pub fn feed() -> Vec<u8> {
     let mut random = Random::new(1);
     let mut all = Vec::new();
     singles(&mut random, &mut all);
     runs(&mut random, &mut all);
+    longest(&mut all);
+    ends(&mut all);
     all
 }
