@@ -1,5 +1,6 @@
 //! Packed codes, readings and rates: numbers of every size at every position, and bits that nobody packed.
 
+use crate::code::{LARGEST, LARGEST_ON_FILE, LONGEST};
 use crate::lent::Lent;
 use crate::random::Random;
 use crate::{cadence, code, raw, some, Tally};
@@ -67,6 +68,13 @@ fn rate(tally: &mut Tally, bytes: &[u8], at: u64, drop: u8, level: u8, held: u64
     tally.compare(|| format!("rate of {bytes:02x?} at {at}, drop {drop}, level {level}"), proved, plain);
 }
 
+/// The code at a position, as a number, a reading and a rate.
+fn read(tally: &mut Tally, bytes: &[u8], at: u64, drop: u8, level: u8, held: u64) {
+    unpack(tally, bytes, at, drop, held);
+    reading(tally, bytes, at, drop, held);
+    rate(tally, bytes, at, drop, level, held);
+}
+
 /// A number of any size; now and then one beside a power of two, where codes change and the range ends.
 fn number(random: &mut Random) -> i32 {
     if random.below(6) > 0 {
@@ -93,9 +101,9 @@ fn pack(tally: &mut Tally, buffer: &[u8], at: u64, value: i32, drop: u8, held: u
     unpack(tally, &bytes, at, drop, held);
 }
 
-/// All of -5,120 to 5,120 and both ends of the range and of i32, at every bit offset.
+/// All of -5,120 to 5,120 and both ends of the range, of what is on file and of i32, at every bit offset.
 fn ranges(random: &mut Random, tally: &mut Tally) {
-    let ends = [33_554_431, -33_554_431, i32::MAX - 100, i32::MIN + 100];
+    let ends = [LARGEST, -LARGEST, LARGEST_ON_FILE, -LARGEST_ON_FILE, i32::MAX - 100, i32::MIN + 100];
     let beside = ends.into_iter().flat_map(|end| end - 100..=end.saturating_add(100));
     for value in (-5120..=5120).chain(beside) {
         for drop in [0, 3] {
@@ -106,9 +114,9 @@ fn ranges(random: &mut Random, tally: &mut Tally) {
     }
 }
 
-/// Numbers about each power of two: packed at some position, and read with each number of bytes cut off.
+/// Numbers about each power of two up to the first that is not packed: packed at some position, and read with each number of bytes cut off.
 fn cuts(random: &mut Random, tally: &mut Tally) {
-    for value in (0..26).flat_map(|k| [1 << k, (1 << k) - 1, -(1 << k), 3 << k >> 1]) {
+    for value in (0..=LARGEST.ilog2() + 1).flat_map(|k| [1 << k, (1 << k) - 1, -(1 << k), 3 << k >> 1]) {
         for drop in [0, 3] {
             let at = random.below(20);
             let mut buffer = random.bytes(6);
@@ -128,7 +136,7 @@ fn hostile(random: &mut Random, tally: &mut Tally) {
     for at in positions {
         for drop in [0, 1, 2, 3, 4, 255] {
             for length in 0..6 {
-                for value in [0, 1, -16, 32, 100, 65_535, -33_554_431] {
+                for value in [0, 1, -16, 32, 100, 65_535, -LARGEST] {
                     pack(tally, &random.bytes(length), at, value, drop, random.next());
                 }
                 unpack(tally, &vec![0; length], at, drop, random.next());
@@ -170,7 +178,9 @@ fn patterns(random: &mut Random, tally: &mut Tally) {
 /// Chosen counts and refused codes, as readings and as rates: drops and levels outside the rule, positions past the end.
 fn chosen(random: &mut Random, tally: &mut Tally) {
     let mut given: Vec<(Vec<u8>, u64)> = [&[][..], &[0xff, 0xff], &[0x80, 0x00], &[0xc0]].map(|bytes| (bytes.to_vec(), 0)).into();
-    for count in [0, 1, 3, 4, 7, 8, 15, 16, 31, 32, 33, 100, 1000, 8191, 8192, 1_000_000, 33_554_430, 33_554_431] {
+    let small = [0, 1, 3, 4, 7, 8, 15, 16, 31, 32, 33, 100, 1000, 8191, 8192];
+    let large = [1_000_000, LARGEST_ON_FILE - 1, LARGEST_ON_FILE, LARGEST_ON_FILE + 1, LARGEST - 1, LARGEST];
+    for count in small.into_iter().chain(large) {
         for (value, drop) in [(count, 0), (-count, 0), (count, 3), (-count, 3)] {
             let (mut bytes, at) = (vec![0; 5], random.below(8));
             code::pack(&mut bytes, at, value, drop).unwrap();
@@ -189,18 +199,35 @@ fn chosen(random: &mut Random, tally: &mut Tally) {
     }
 }
 
+/// Every run of ones up to two past the longest, of either sign and parity, the bits behind it all 0, all 1 and by chance: cut at every
+/// bit, with nothing behind the cut.
+fn runs(random: &mut Random, tally: &mut Tally) {
+    for ones in 0..=LONGEST + 2 {
+        for (s, even) in [(0, 0), (0, 1), (1, 0), (1, 1)] {
+            for field in [0, u16::MAX, random.next() as u16] {
+                let bits = format!("1{s}{}0{even}{field:016b}", "1".repeat(ones));
+                for count in 0..=bits.len() {
+                    let (bytes, at) = code::at_the_end(&bits[..count]);
+                    for drop in [0, 3] {
+                        read(tally, &bytes, at, drop, random.below(9) as u8, random.next());
+                    }
+                }
+            }
+        }
+    }
+}
+
 /// Bits that nobody packed, long runs of ones among them, as numbers, readings and rates: all short ones, then by chance.
 pub fn drive_patterns(random: &mut Random, cases: u64, tally: &mut Tally) {
     patterns(random, tally);
     chosen(random, tally);
+    runs(random, tally);
     for _ in 0..cases {
         let mut bytes = some(random, 7);
         for byte in &mut bytes {
             *byte |= if random.below(3) == 0 { 0xff } else { 0 };
         }
         let (at, drop, held) = (position(random) / (1 + random.below(3)), drop(random), random.next());
-        unpack(tally, &bytes, at, drop, held);
-        reading(tally, &bytes, at, drop, held);
-        rate(tally, &bytes, at, drop, random.below(9) as u8, held);
+        read(tally, &bytes, at, drop, random.below(9) as u8, held);
     }
 }
