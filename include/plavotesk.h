@@ -123,7 +123,7 @@ PLV_ANSWERS uint8_t plv_message_read(const uint8_t *bytes, size_t bytes_length, 
 PLV_ANSWERS uint8_t plv_message_write(uint8_t *buffer, size_t buffer_length, uint16_t address, uint8_t tag, uint64_t value,
                                       uint64_t *written);
 
-/* Packs a number of at most 33,554,431 either way at a bit position, with drop 0 or 3, and answers the next position. Bits go
+/* Packs a number of at most 67,108,863 either way at a bit position, with drop 0 or 3, and answers the next position. Bits go
  * most significant first; 8, 3. */
 PLV_ANSWERS uint8_t plv_code_pack(uint8_t *buffer, size_t buffer_length, uint64_t at, int32_t value, uint8_t drop, uint64_t *next);
 

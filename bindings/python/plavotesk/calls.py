@@ -145,8 +145,8 @@ def message_write(buffer: Any, message: Message) -> int:
 
 
 def code_pack(buffer: Any, at: int, value: int, drop: int) -> int:
-    """Packs a number at a bit position of a bytearray, and answers the next position. Drop 3 leaves out three more bits than drop 0.
-    Refusals 8, 3."""
+    """Packs a number of at most 67,108,863 either way at a bit position of a bytearray, with drop 0 or 3, and answers the next position. Drop 3
+    leaves out three more bits than drop 0. Refusals 8, 3."""
     into = Lent('buffer', buffer, writable=True)
     value = max(-(2 ** 31 - 1), min(whole('value', value), 2 ** 31 - 1))
     return _one(library().plv_code_pack, _u64, into.address, into.length, upward('at', at, 64), value, within('drop', drop, 8))

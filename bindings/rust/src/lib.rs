@@ -143,7 +143,7 @@ pub fn message_write(buffer: &mut [u8], message: Message) -> Answer<usize> {
     answer(number, written as usize)
 }
 
-/// Packs a number at a bit position, and answers the next position. Refusals 8, 3.
+/// Packs a number of at most 67,108,863 either way at a bit position, with drop 0 or 3, and answers the next position. Refusals 8, 3.
 pub fn code_pack(buffer: &mut [u8], at: u64, value: i32, drop: u8) -> Answer<u64> {
     let mut next = 0;
     // SAFETY: what is lent is lent as it is; the places are ours.
