@@ -130,11 +130,11 @@ static void reading(const uint8_t *bytes, size_t length, uint64_t at, uint8_t dr
 }
 
 static void codes(void) {
-    static const int32_t values[] = {0, 5, -16, 32, 100, 3, 4, 33554431, 33554432, 5};
-    static const uint8_t drops[] = {0, 0, 0, 0, 0, 3, 3, 0, 0, 1}, zero[1];
+    static const int32_t values[] = {0, 5, -16, 32, 100, 3, 4, 33554431, 33554432, 67108863, 67108864, -67108863, 5};
+    static const uint8_t drops[] = {0, 0, 0, 0, 0, 3, 3, 0, 0, 0, 0, 3, 1}, zero[1];
     uint8_t buffer[4];
     char name[40];
-    for (int i = 0; i < 10; i++) {
+    for (int i = 0; i < 13; i++) {
         uint64_t next = 0;
         memset(buffer, 0xff, 4);
         snprintf(name, sizeof name, "pack %" PRId32 " drop %u", values[i], drops[i]);

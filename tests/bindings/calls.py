@@ -63,7 +63,8 @@ def rates(answer):
 
 
 def codes():
-    cases = [(0, 0), (5, 0), (-16, 0), (32, 0), (100, 0), (3, 3), (4, 3), (33554431, 0), (33554432, 0), (5, 1)]
+    cases = [(0, 0), (5, 0), (-16, 0), (32, 0), (100, 0), (3, 3), (4, 3), (33554431, 0), (33554432, 0), (67108863, 0), (67108864, 0),
+             (-67108863, 3), (5, 1)]
     for value, drop in cases:
         buffer = bytearray([0xff] * 4)
         line(f'pack {value} drop {drop}', lambda: plavotesk.code_pack(buffer, 3, value, drop))

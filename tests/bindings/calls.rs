@@ -48,7 +48,9 @@ fn messages() {
 }
 
 fn codes() {
-    for (value, drop) in [(0, 0), (5, 0), (-16, 0), (32, 0), (100, 0), (3, 3), (4, 3), (33_554_431, 0), (33_554_432, 0), (5, 1)] {
+    let cases = [(0, 0), (5, 0), (-16, 0), (32, 0), (100, 0), (3, 3), (4, 3)];
+    let ends = [(33_554_431, 0), (33_554_432, 0), (67_108_863, 0), (67_108_864, 0), (-67_108_863, 3)];
+    for (value, drop) in cases.into_iter().chain(ends).chain([(5, 1)]) {
         let mut buffer = [0xff; 4];
         line(&format!("pack {value} drop {drop}"), code_pack(&mut buffer, 3, value, drop), |next| next.to_string());
         println!("bits: {}", hex(&buffer));

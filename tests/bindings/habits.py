@@ -64,7 +64,7 @@ def numbers():
         refused(19, lambda: plavotesk.level_seconds(level))
     for second in (3600, 65536, 2 ** 80, -1):
         refused(19, lambda: plavotesk.second_beginning(second))
-    for value in (2 ** 25, 2 ** 31, 2 ** 40, -2 ** 40):
+    for value in (2 ** 26, -2 ** 26, 2 ** 31, 2 ** 40, -2 ** 40):
         refused(8, lambda: plavotesk.code_pack(buffer, 0, value, 0))
     for drop in (1, 256, 2 ** 80, -1):
         refused(8, lambda: plavotesk.code_unpack(buffer, 0, drop))
