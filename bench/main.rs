@@ -311,7 +311,7 @@ fn unpack_run(unpack: impl Fn(&[u8], u64, u8) -> Result<(i32, u64), u8>, bytes: 
 }
 
 fn codes(random: &mut Random) {
-    for (name, most) in [("small", 16), ("middle", 4096), ("large", 33_554_432)] {
+    for (name, most) in [("small", 16), ("middle", 4096), ("large", plain::LARGEST + 1)] {
         for drop in [0, 3] {
             let numbers: Vec<i32> = (0..1000).map(|_| (random.next() % most) as i32 * (1 - 2 * (random.next() % 2) as i32)).collect();
             let (mut first, mut second) = (vec![0; 4000], vec![0; 4000]);

@@ -4,6 +4,10 @@
 const MARK: [u8; 4] = [0xbe, 0xba, 0xca, 0xfe];
 const SIZES: [usize; 4] = [0, 2, 4, 8];
 const FULL: u32 = 67_108_863;
+/// The largest number that is packed, either way.
+pub const LARGEST: u64 = 67_108_863;
+/// The most ones of a code, which stand before two zeros.
+const LONGEST: u64 = 12;
 /// The eight steps of a doubling: 2^(31 + i/8), rounded up.
 const STEPS: [u32; 8] = [2_147_483_648, 2_341_847_524, 2_553_802_834, 2_784_941_738, 3_037_000_500, 3_311_872_530, 3_611_622_603, 3_938_502_376];
 
@@ -112,7 +116,7 @@ pub fn write_message(buffer: &mut [u8], address: u16, tag: u8, value: u64) -> Re
 /// The bits of a number's code, right-aligned, and how many they are.
 fn code(value: i32, drop: u8) -> Result<(u64, u32), u8> {
     let m = value.unsigned_abs() as u64;
-    if !matches!(drop, 0 | 3) || m > 33_554_431 {
+    if !matches!(drop, 0 | 3) || m > LARGEST {
         return Err(8);
     }
     let (s, drop) = ((value < 0) as u64, drop as u32);
@@ -180,7 +184,7 @@ pub fn unpack(bytes: &[u8], at: u64, drop: u8) -> Result<(i32, u64), u8> {
     let mut ones = 0;
     while field(bytes, &mut at, 1)? == 1 {
         ones += 1;
-        if ones == 12 {
+        if ones > LONGEST {
             return Err(11);
         }
     }
@@ -189,6 +193,9 @@ pub fn unpack(bytes: &[u8], at: u64, drop: u8) -> Result<(i32, u64), u8> {
         1 => (1, 3 - drop, 1 + drop),
         _ => {
             let even = field(bytes, &mut at, 1)?;
+            if ones == LONGEST && even == 1 {
+                return Err(11);
+            }
             let sent = ones + 1 - drop;
             (1, sent, 2 * ones + 1 + even - sent)
         }
