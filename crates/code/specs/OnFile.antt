@@ -15,9 +15,9 @@ use Rattle.ground.specs.Questions.{both-ways, both-hold}
 use Rattle.ground.specs.Paper.{Paper, accepted, refused, onward, mapped, refused-not}
 use Rattle.ground.specs.Outcome.{Outcome, accept, refuse, outcomeOf}
 use Rattle.ground.specs.Bits.{toBits}
-use Rattle.code.specs.Meaning.{Parsed, ranOut, runTooLong, ShapeValues, UnpackValues, greatestPlace, largest, longestRun, leastCoded}
-use Rattle.code.specs.Meaning.{ledOf, shapeOf, coded, bits, signOf, shapeOfNumber, codeOf, ledThen, afterRun}
-use Rattle.code.specs.Meaning.{afterSign, parse, bitsThatCount, answerOf, shapeMeans, numberRead, unpackMeans, dropKnown, placeMeans, packMeans, bytesWith}
+use Rattle.code.specs.Meaning.{Parsed, ranOut, runTooLong, ShapeValues, UnpackValues, greatestPlace, largest, longestRun, leastCoded, ledOf, shapeOf}
+use Rattle.code.specs.Meaning.{coded, bits, signOf, shapeOfNumber, codeOf, ledThen, afterRun, afterSign, parse, bitsThatCount, answerOf, shapeMeans}
+use Rattle.code.specs.Meaning.{numberRead, unpackMeans, dropKnown, placeMeans, packMeans, bytesWith}
 use Rattle.code.specs.OldReader.{oldPlace, oldLargest, oldShapeMeans, oldUnpackMeans, oldPackMeans}
 use Rattle.code.specs.Answers.{packedPaper, unpackedPaper}
 use Rattle.code.specs.Promise.{PackPromise, UnpackPromise}

@@ -32,7 +32,7 @@ returns-4 c =
     let at-two = at-three .before in
     let at-one = at-two .before in
     parity-above _ _ _ _ _ _ _ (at-one .before .before .pre .0 .end-is) (at-three .if3 .left) (at-one .if1 .left) (at-two .if2 .left)
-    (at-bit .bit-wide .ensures .0) (c .if4 .taken)
+    (at-bit .bit-wide .ensures .0) (omega (arith, c .if4 .taken))
 
 sub-width : tie.Need-sub-width
 sub-width c =
@@ -54,7 +54,7 @@ led-requires-2 c κs =
       drop-is = p .0 .drop-is;
       sign = p .1;
       four = omega (arith, at-one .if1 .left, at-two .if2 .left);
-      top = omega (arith, at-four .if4 .left);
+      top = at-four .if4 .left;
       width-is = run-wide _ _ _ _ (p .0 .drop-is) (c .wide2 .ensures) (omega (arith, at-one .if1 .left, at-two .if2 .left)) (at-bit .bit-wide .ensures .1);
     }
 
