@@ -146,8 +146,7 @@ pack-as-before {buffer} {at = at} {d = d} {v = v} p e = p .outcome ∙ packs-as-
 
 -- "New ones have 12 ones, a zero, a zero and, for drop 0, 13 further bits, 29 in all"; three fewer with drop 3
 pub record NewCode (d : ℕ) (v : ℤ) : Type 0 where
-  pub further : ℕ
-  pub bits-are : codeOf d v ≡ coded (signOf v) 12 (0 ∷ toBits (13 - d) further)
+  pub bits-are : codeOf d v ≡ coded (signOf v) 12 (0 ∷ toBits (13 - d) (natAbs v % 2 ^ 25 / 2 ^ (12 + d)))
   pub many : length (codeOf d v) ≡ 29 - d
 
 -- the leading one of a number above the old limit stands at the greatest place
@@ -162,10 +161,10 @@ new-shape d v few over fits =
 pub new-codes : (d : ℕ) (v : ℤ) → Drop d → oldLargest < natAbs v → natAbs v ≤ largest → NewCode d v
 new-codes d v none over fits =
     let e = ap (bits 0) (new-shape 0 v (omega arith) over fits) in
-    record { further = natAbs v % 2 ^ 25 / 2 ^ 12; bits-are = e; many = ap length e }
+    record { bits-are = e; many = ap length e }
 new-codes d v three over fits =
     let e = ap (bits 3) (new-shape 3 v (omega arith) over fits) in
-    record { further = natAbs v % 2 ^ 25 / 2 ^ 15; bits-are = e; many = ap length e }
+    record { bits-are = e; many = ap length e }
 
 -- "The old reader refuses those by 11", whatever follows them
 pub new-too-long : (d : ℕ) (v : ℤ) (rest : List ℕ) → Drop d → oldLargest < natAbs v → natAbs v ≤ largest → parse oldPlace d (codeOf d v ++ rest) ≡ runTooLong
