@@ -84,9 +84,14 @@ shape-stands bytes at d =
     go true false (inl e) = inl (ap (answerOf d at) e)
     go true false (inr e) = inr (ap (answerOf d at) e)
 
+-- what was accepted, and not refused, is accepted still
+accepted-stands : {A : Type 0} {old new : Paper A} {n : ℕ} {x : A} → (old ≡ refused n) ⊎ (old ≡ new) → old ≡ accepted x → new ≡ accepted x
+accepted-stands (inl r) e = absurd (refused-not (sym r ∙ e))
+accepted-stands (inr q) e = sym q ∙ e
+
 -- "every code accepted before decodes as before": its sign, its magnitude, its error and its next position
 pub reads-as-before : (bytes : List ℕ) (at d : ℕ) {v : ShapeValues} → oldShapeMeans bytes at d ≡ accepted v → shapeMeans bytes at d ≡ accepted v
-reads-as-before bytes at d e = ⊎-elim (λ r. absurd (refused-not (sym r ∙ e))) (λ q. sym q ∙ e) (shape-stands bytes at d)
+reads-as-before bytes at d = accepted-stands (shape-stands bytes at d)
 
 -- the same of all that goes on from what was read: numbers, readings, rates
 pub onward-stands : {A : Type 0} (then : ShapeValues → Paper A) (bytes : List ℕ) (at d : ℕ)
@@ -96,7 +101,7 @@ onward-stands then bytes at d = ⊎-elim (λ r. inl (ap (onward then) r)) (λ q.
 -- what was made of a code before is made of it now
 pub onward-as-before : {A : Type 0} (then : ShapeValues → Paper A) (bytes : List ℕ) (at d : ℕ) {x : A} → onward then (oldShapeMeans bytes at d) ≡ accepted x
     → onward then (shapeMeans bytes at d) ≡ accepted x
-onward-as-before then bytes at d e = ⊎-elim (λ r. absurd (refused-not (sym r ∙ e))) (λ q. sym q ∙ e) (onward-stands then bytes at d)
+onward-as-before then bytes at d = accepted-stands (onward-stands then bytes at d)
 
 -- "decodes as before": the same number, the same next position
 pub decodes-as-before : (bytes : List ℕ) (at d : ℕ) {t : UnpackValues} → oldUnpackMeans bytes at d ≡ accepted t → unpackMeans bytes at d ≡ accepted t

@@ -2,7 +2,7 @@
 -- Assumes nothing.
 use mathlib.Core.Path.{_≡_, refl, sym, ap, ap₂, _∙_, subst}
 use mathlib.Core.List.{List, [], _∷_, _++_, append-assoc}
-use Prim.Native.Nat.{ℕ, zero, suc, _+_, _-_, _/_, _%_, _≤_, zero-le}
+use Prim.Native.Nat.{ℕ, zero, suc, _+_, _*_, _-_, _/_, _%_, _≤_, zero-le}
 use native.Mathlib.Nat.{add-zero}
 use native.Mathlib.Omega.{arith}
 use lib.Dec.{ltb, eqb}
@@ -95,8 +95,8 @@ value-few v =
     pick-elim (λ (l : List ℕ). length l ≤ 9) (eqb (signOf v) 1) _ _ (λ e. omega (arith, shortest-few 8 (natAbs v)))
     (λ e. omega (arith, shortest-few 8 (natAbs v)))
 
--- a number's line fits the room that is enough for any answer
-pub number-few : (v : ℤ) → natAbs v ≤ largest → length (numberText v) ≤ enough
+-- a number's line is at most a value, two codes and three further bytes long
+pub number-few : (v : ℤ) → natAbs v ≤ largest → length (numberText v) ≤ 9 + 2 * longestCode greatestPlace + 3
 number-few v h =
     let tail : List ℕ = 32 ∷ (codeText 3 v ++ (10 ∷ [])) in
     omega (
@@ -108,3 +108,7 @@ number-few v h =
       length-append (codeText 0 v) tail,
       length-append (codeText 3 v) (10 ∷ []),
     )
+
+-- so it fits the room that is enough for any answer
+pub number-enough : (v : ℤ) → natAbs v ≤ largest → length (numberText v) ≤ enough
+number-enough v h = omega (arith, number-few v h)
