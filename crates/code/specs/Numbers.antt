@@ -23,6 +23,13 @@ shift-is k w h = ap (λ (n : ℕ). n % 2 ^ w) (one-mul (2 ^ k)) ∙ mod-eq-of-lt
 pub shift-positive : (k w : ℕ) → k < w → 1 ≤ 1 * 2 ^ k % 2 ^ w
 shift-positive k w h = subst (λ (n : ℕ). 1 ≤ n) (sym (shift-is k w h)) (pow-pos k)
 
+-- the last bits of a number, as the code computes them, and that they lie in their width
+pub last-is : (number width : ℕ) → width < 64
+    → (number % (1 * 2 ^ width % 2 ^ 64) ≡ number % 2 ^ width) × (number % (1 * 2 ^ width % 2 ^ 64) < 2 ^ width)
+last-is number width h =
+    let e = ap (λ (n : ℕ). number % n) (shift-is width 64 h) in
+    (e, subst (λ (n : ℕ). n < 2 ^ width) (sym e) (mod-lt number (pow-pos width)))
+
 -- a power that 32 bits hold
 pub power-held : (k : ℕ) → k < 32 → PowerPromise k (1 * 2 ^ k % 2 ^ 32)
 power-held k h = record { answer = shift-is k 32 h ∙ ap (λ (b : Bool). pick b (2 ^ k) 0) (sym (lt-ltb k 32 h)) }

@@ -26,6 +26,18 @@ bytes-take (suc n) (x ∷ xs) b (suc i) = bytes-take n xs (λ j. b (suc j)) i
 pub bytes-drop : (n : ℕ) (l : List ℕ) → Bytes l → Bytes (drop n l)
 bytes-drop n l b i = subst (λ (x : ℕ). x < 256) (sym (getD-drop n l i 0)) (b (n + i))
 
+-- bytes after bytes are bytes
+pub bytes-append : (l k : List ℕ) → Bytes l → Bytes k → Bytes (l ++ k)
+bytes-append [] k p q i = q i
+bytes-append (b ∷ l) k p q zero = p zero
+bytes-append (b ∷ l) k p q (suc i) = bytes-append l k (λ j. p (suc j)) q i
+
+-- the bytes of a number are bytes
+pub bytes-bytesOf : (w x : ℕ) → Bytes (bytesOf w x)
+bytes-bytesOf zero x i = zero-lt-suc 255
+bytes-bytesOf (suc w) x zero = omega arith
+bytes-bytesOf (suc w) x (suc i) = bytes-bytesOf w x i
+
 -- bytes mean a number below 256 to the power of their length
 number-lt : (l : List ℕ) → Bytes l → number l < 256 ^ length l
 number-lt [] b = zero-lt-suc 0

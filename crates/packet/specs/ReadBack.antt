@@ -3,7 +3,7 @@
 use mathlib.Core.Path.{_≡_, refl, sym, ap, ap₂, _∙_}
 use mathlib.Core.Bool.{true}
 use mathlib.Core.List.{List, _++_}
-use Prim.Native.Nat.{ℕ, _+_, _-_, _^_, _<_, _≤_}
+use Prim.Native.Nat.{ℕ, zero, suc, _+_, _-_, _^_, _<_, _≤_}
 use native.Mathlib.Nat.{sub-zero}
 use native.Mathlib.Omega.{arith}
 use borrow.Author.Tests.{le-ltb, ltb-false}
@@ -11,11 +11,13 @@ use lib.Dec.{ltb}
 use lib.ListN.{length, take, drop}
 use lib.Seq.{take-at}
 use Rattle.ground.specs.Paper.{accepted}
-use Rattle.ground.specs.Outcome.{accept, two-passed}
+use Rattle.ground.specs.Bytes.{Bytes, bytes-append, bytes-bytesOf}
+use Rattle.ground.specs.Choice.{pick-elim}
+use Rattle.ground.specs.Outcome.{Outcome, accept, refuse, two-passed}
 use Rattle.ground.specs.Words.{bytesOf, wordAt, number-bytesOf}
 use Rattle.crc.specs.Meaning.{checksumOf, sealedOf, sealedAt}
 use Rattle.crc.specs.Sealing.{length-sealed, sealed-front, sealed-stands, sealed-lies}
-use Rattle.packet.specs.Meaning.{covered, packetOf, dataLength, stands, findFrom, findMeans, headerMeans, payloadMeans, writeMeans}
+use Rattle.packet.specs.Meaning.{covered, mark, packetOf, dataLength, stands, findFrom, findMeans, headerMeans, payloadMeans, writeMeans}
 use Rattle.packet.specs.Laws.{Standing, stands-so, find-here}
 
 -- what a packet's checksum covers has n+8 bytes
@@ -26,6 +28,25 @@ covered-length apid payload = omega arith
 pub packet-length : (apid : ℕ) (payload : List ℕ) → length (packetOf apid payload) ≡ length payload + 10
 unfolding packetOf
 packet-length apid payload = omega (arith, length-sealed (covered apid payload), covered-length apid payload)
+
+-- and is bytes, where its data is
+pub packet-bytes : (apid : ℕ) (payload : List ℕ) → Bytes payload → Bytes (packetOf apid payload)
+unfolding packetOf sealedOf
+packet-bytes apid payload b =
+    let size = bytesOf 2 (length payload + 4) in
+    let named = bytesOf 2 apid in
+    let sum = bytesOf 2 (checksumOf (covered apid payload)) in
+    bytes-append (covered apid payload) sum
+    (bytes-append mark (size ++ (named ++ payload)) mark-bytes
+    (bytes-append size (named ++ payload) (bytes-bytesOf 2 (length payload + 4)) (bytes-append named payload (bytes-bytesOf 2 apid) b)))
+    (bytes-bytesOf 2 (checksumOf (covered apid payload)))
+  where
+    mark-bytes : Bytes mark
+    mark-bytes zero = omega arith
+    mark-bytes (suc zero) = omega arith
+    mark-bytes (suc (suc zero)) = omega arith
+    mark-bytes (suc (suc (suc zero))) = omega arith
+    mark-bytes (suc (suc (suc (suc i)))) = omega arith
 
 -- a written packet and whatever follows it
 abbrev pub written : ℕ → List ℕ → List ℕ → List ℕ
@@ -111,3 +132,14 @@ write-accepted buffer apid payload e =
       count = passed .value;
       leaves = passed .leaving;
     }
+
+-- to show something of what writing may leave, show it of an accepted outcome and of a refusal by any number but 0
+pub write-elim : (P : Outcome ℕ (List ℕ) → Type 0) (buffer : List ℕ) (apid : ℕ) (payload : List ℕ)
+    → (length payload ≤ 8187 → length payload + 10 ≤ length buffer
+    → P (accept (length payload + 10) (written apid payload (drop (length payload + 10) buffer))))
+    → ((n : ℕ) → 0 < n → P (refuse n buffer))
+    → P (writeMeans buffer apid payload)
+unfolding writeMeans
+write-elim P buffer apid payload p q =
+    pick-elim P (ltb 8187 (length payload)) _ _ (λ h. q 2 (omega arith))
+    (λ h. pick-elim P (ltb (length buffer) (length payload + 10)) _ _ (λ k. q 3 (omega arith)) (λ k. p (ltb-false _ _ h) (ltb-false _ _ k)))
