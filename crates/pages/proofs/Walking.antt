@@ -9,10 +9,11 @@ use native.Mathlib.Nat.{mul-le-mul-right}
 use native.Mathlib.Omega.{arith}
 use lib.Dec.{leb}
 use lib.ListN.{length, getD, set}
-use Rattle.ground.specs.Choice.{pick}
 use Rattle.pages.specs.Layout.{placeOf}
-use Rattle.pages.specs.Meaning.{Walk, full, lastOf, rowOf, rowStart, rowsIn, soundOf, walkAt, walkOf}
-use Rattle.pages.specs.Walks.{walk-append, sound-append}
+use Rattle.pages.specs.Meaning.{Walk, full, lastOf, rowOf, rowStart, rowsIn, soundOf, walkAt}
+use Rattle.pages.specs.Passes.{leftOf, pass-append, passOf, valueOf}
+use Rattle.pages.specs.Walks.{sound-append}
+use Rattle.pages.specs.declared.Pass.{Pass}
 use Rattle.pages.specs.declared.Window.{Window}
 
 -- a row of a window ends under N where the window's last cell does
@@ -38,14 +39,16 @@ pub sound-step : (m : List ℕ) (page : Bool) (v : Window) (k start : ℕ) (ok l
     → l ≡ soundOf m page (rowOf start (v .xsize + 1)) → b ≡ (ok && l) → b ≡ soundOf m page (rowsIn v (k + 1))
 sound-step m page v k start ok l b i e f g = rw (add-one k, sound-append, ← e, ← f, ← i) g
 
--- one cell more of a row visited
-pub walk-cell : (page clear : Bool) (w : Walk) (m : List ℕ) (total start c at r : ℕ) (after : List ℕ)
-    → walkAt m total ≡ walkOf page clear w (rowOf start c) → at ≡ placeOf (length m) page (start + c) → r ≡ getD m at 0
-    → after ≡ pick clear (set m at 0) m → walkAt after (total + r) ≡ walkOf page clear w (rowOf start (c + 1))
-walk-cell page clear w m total start c at r after i e f g = rw (add-one, walk-append, ← i, ← e, ← f, ← g) refl
+-- one cell more of a row gone over
+pub pass-cell : (pass : Pass) (n : ℕ) (page : Bool) (w : Walk) (m : List ℕ) (total start c at r : ℕ) (after : List ℕ)
+    → walkAt m total ≡ passOf pass n page w (rowOf start c) → length m ≡ n → at ≡ placeOf (length m) page (start + c)
+    → r ≡ valueOf pass (getD m at 0) → after ≡ set m at (leftOf pass (getD m at 0))
+    → walkAt after (total + r) ≡ passOf pass n page w (rowOf start (c + 1))
+pass-cell pass n page w m total start c at r after i l e f g = rw (add-one, pass-append, ← i, ← l, ← e, ← f, ← g) refl
 
--- one row more of a window visited
-pub walk-step : (page clear : Bool) (w : Walk) (v : Window) (m : List ℕ) (total k start r : ℕ) (after : List ℕ)
-    → walkAt m total ≡ walkOf page clear w (rowsIn v k) → start ≡ rowStart v k
-    → walkAt after r ≡ walkOf page clear (walkAt m total) (rowOf start (v .xsize + 1)) → walkAt after r ≡ walkOf page clear w (rowsIn v (k + 1))
-walk-step page clear w v m total k start r after i e f = rw (add-one k, walk-append, ← i, ← e) f
+-- one row more of a window gone over
+pub pass-step : (pass : Pass) (n : ℕ) (page : Bool) (w : Walk) (v : Window) (m : List ℕ) (total k start r : ℕ) (after : List ℕ)
+    → walkAt m total ≡ passOf pass n page w (rowsIn v k) → length m ≡ n → start ≡ rowStart v k
+    → walkAt after r ≡ passOf pass (length m) page (walkAt m total) (rowOf start (v .xsize + 1))
+    → walkAt after r ≡ passOf pass n page w (rowsIn v (k + 1))
+pass-step pass n page w v m total k start r after i l e f = rw (add-one k, pass-append, ← i, ← e, ← l) f

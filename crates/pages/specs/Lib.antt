@@ -1,9 +1,12 @@
 pub mod Layout
 pub mod Meaning
 pub mod Answers
+pub mod Passes
+pub mod Flags
 pub mod Promise
 pub mod OneOutcome
 pub mod Outcomes
 pub mod Cells
 pub mod Words
 pub mod Walks
+pub mod Totals

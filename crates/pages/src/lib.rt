@@ -1,9 +1,11 @@
-// Two pages of counters in lent words: where a word lies, counting, and windows of cells checked, summed and cleared.
+// Two pages of counters in lent words: where a word lies, counting, and windows of cells checked, summed, cleared, and marked on trial.
 mod layout;
+mod passes;
 mod walk;
 
-ghost use Rattle.pages.specs.Promise.{SizedPromise, ClearPromise, CountPromise, CheckPromise, TakePromise};
+ghost use Rattle.pages.specs.Promise.{SizedPromise, ClearPromise, CountPromise, CheckPromise, TakePromise, PassPromise};
 use layout::place;
+use passes::flags_of;
 use walk::last_cell;
 use walk::sound_rows;
 use walk::walk_window;
@@ -33,14 +35,40 @@ pub enum Taken {
 }
 
 // What checking a window answers.
-enum Checked {
+pub enum Checked {
     Sound,
     WrongCell,
     AboveFull,
 }
 
+// What is done to each word of a window: kept or set to 0; on trial looked at, marked, or a mark taken away, or a marked word set to 0.
+pub enum Pass {
+    Keep,
+    Clear,
+    Look,
+    Mark,
+    Unmark,
+    Zero,
+}
+
+// A pass as three flags: whether marked words are not seen, whether words are cleared (on trial by a mark), and whether marks are settled.
+struct Flags {
+    trial: bool,
+    clear: bool,
+    settle: bool,
+}
+
+// What going over a window answers: the sum of what was seen, or why not.
+pub enum Passed {
+    Sum(u64),
+    WrongCell,
+}
+
 // The count at which a word is full and stays.
 pub const FULL: u32 = 67108863;
+
+// The mark of a word that was cleared on trial: bit 31, which no count has.
+pub const MARK: u32 = 2147483648;
 
 // Whether a memory may have so many words.
 pub fn sized(words: usize) -> bool
@@ -92,14 +120,21 @@ pub fn take(memory: &mut [u32], second: bool, window: Window) -> Taken
 {
     let checked = check(memory, second, window);
     match checked {
-        Checked::Sound => Taken::Sum(walk_window(memory, second, window)),
+        Checked::Sound => Taken::Sum(walk_window(
+            memory,
+            second,
+            false,
+            window.clear,
+            false,
+            window,
+        )),
         Checked::WrongCell => Taken::WrongCell,
         Checked::AboveFull => Taken::AboveFull,
     }
 }
 
 // Whether a window of a page may be taken: its last cell inside the page, and none of its words above full.
-fn check(memory: &[u32], second: bool, window: Window) -> Checked
+pub fn check(memory: &[u32], second: bool, window: Window) -> Checked
     ensures { λ r. ⌜ CheckPromise (now (memory .entry)) second window r ⌝ }
 {
     if memory.len() / 2 <= last_cell(window) {
@@ -109,4 +144,23 @@ fn check(memory: &[u32], second: bool, window: Window) -> Checked
         return Checked::AboveFull;
     }
     Checked::Sound
+}
+
+// Goes over the cells of a window of a page in order, does to each what the pass says, and answers the sum of what was seen.
+pub fn go_over(memory: &mut [u32], second: bool, rule: Pass, window: Window) -> Passed
+    ensures { λ r. ⌜ PassPromise (now (memory .entry)) second rule window r (now (memory .exit)) ⌝ }
+{
+    let words = memory.len();
+    if words / 2 <= last_cell(window) {
+        return Passed::WrongCell;
+    }
+    let flags = flags_of(rule);
+    Passed::Sum(walk_window(
+        memory,
+        second,
+        flags.trial,
+        flags.clear,
+        flags.settle,
+        window,
+    ))
 }

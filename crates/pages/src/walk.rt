@@ -4,11 +4,15 @@ ghost use mathlib.Core.Path.{_≡_};
 ghost use Prim.Native.Nat.{_+_, _*_, _/_, _≤_, _<_};
 ghost use lib.Dec.{leb};
 ghost use lib.ListN.{length, getD, set};
-ghost use Rattle.ground.specs.Choice.{pick};
-ghost use Rattle.pages.specs.Meaning.{cellsOf, full, lastOf, rowOf, rowStart, soundOf, walkAt, walkOf, windowWalk};
+ghost use Rattle.pages.specs.Meaning.{cellsOf, full, lastOf, rowOf, rowStart, soundOf, walkAt};
+ghost use Rattle.pages.specs.Flags.{passBy};
+ghost use Rattle.pages.specs.Passes.{leftOf, passOf, valueOf, windowPass};
 use crate::FULL;
 use crate::Window;
 use crate::layout::place;
+use crate::passes::either;
+use crate::passes::left;
+use crate::passes::unless_marked;
 
 // The address of a window's last cell.
 pub(crate) fn last_cell(window: Window) -> usize
@@ -34,18 +38,34 @@ pub(crate) fn sound_rows(memory: &[u32], page: bool, window: Window) -> bool
     ok
 }
 
-// Takes a window in one pass: each visit adds what the word holds then, and sets it to 0 at once where the window clears.
-pub(crate) fn walk_window(memory: &mut [u32], page: bool, window: Window) -> u64
+// Goes over a window once: each visit adds what it sees of the word then, and leaves there at once what the pass leaves.
+pub(crate) fn walk_window(
+    memory: &mut [u32],
+    page: bool,
+    trial: bool,
+    clear: bool,
+    settle: bool,
+    window: Window,
+) -> u64
     requires { ⌜ lastOf window < length (now memory) / 2 ⌝ }
-    ensures { λ r. ⌜ walkAt (now (memory .exit)) r ≡ windowWalk (now (memory .entry)) page window ⌝ }
+    ensures { λ r. ⌜ walkAt (now (memory .exit)) r ≡ windowPass (now (memory .entry)) page (passBy trial clear settle) window ⌝ }
+    ensures { λ r. ⌜ r ≤ 281474976710656 ⌝ }
 {
-    walk_rows(memory, page, window.clear, window)
+    walk_rows(memory, page, trial, clear, settle, window)
 }
 
-// Visits every cell of a window in order, and answers the sum.
-fn walk_rows(memory: &mut [u32], page: bool, clear: bool, window: Window) -> u64
+// Goes over every cell of a window in order, and answers the sum of what was seen.
+fn walk_rows(
+    memory: &mut [u32],
+    page: bool,
+    trial: bool,
+    clear: bool,
+    settle: bool,
+    window: Window,
+) -> u64
     requires { ⌜ lastOf window < length (now memory) / 2 ⌝ }
-    ensures { λ r. ⌜ walkAt (now (memory .exit)) r ≡ walkOf page clear (walkAt (now (memory .entry)) 0) (cellsOf window) ⌝ }
+    ensures { λ r. ⌜ walkAt (now (memory .exit)) r ≡ windowPass (now (memory .entry)) page (passBy trial clear settle) window ⌝ }
+    ensures { λ r. ⌜ r ≤ 281474976710656 ⌝ }
 {
     let width = window.xsize as usize + 1;
     let rows = window.ysize as usize + 1;
@@ -53,7 +73,7 @@ fn walk_rows(memory: &mut [u32], page: bool, clear: bool, window: Window) -> u64
     let mut row = 0;
     while row < rows {
         let start = row_start(window, row);
-        sum = walk_row(memory, page, clear, start, width, sum);
+        sum = walk_row(memory, page, trial, clear, settle, start, width, sum);
         row += 1;
     }
     sum
@@ -90,40 +110,43 @@ fn sound_row(memory: &[u32], page: bool, start: usize, width: usize) -> bool
     ok
 }
 
-// Visits every cell of a row in order, and answers the sum so far with theirs added.
+// Goes over every cell of a row in order, and answers the sum so far with what was seen added.
 fn walk_row(
     memory: &mut [u32],
     page: bool,
+    trial: bool,
     clear: bool,
+    settle: bool,
     start: usize,
     width: usize,
     sum: u64,
 ) -> u64
     requires { ⌜ (start + width ≤ length (now memory) / 2) × (width ≤ 256) × (sum ≤ 281474976710656) ⌝ }
-    ensures { λ r. ⌜ walkAt (now (memory .exit)) r ≡ walkOf page clear (walkAt (now (memory .entry)) sum) (rowOf start width) ⌝ }
+    ensures { λ r. ⌜ walkAt (now (memory .exit)) r
+        ≡ passOf (passBy trial clear settle) (length (now (memory .entry))) page (walkAt (now (memory .entry)) sum) (rowOf start width) ⌝ }
     ensures { λ r. ⌜ r ≤ sum + width * 4294967296 ⌝ }
 {
     let mut total = sum;
     let mut column = 0;
     while column < width {
         let at = place(memory.len(), page, start + column);
-        total += visit(memory, at, clear);
+        total += visit(memory, at, trial, clear, settle);
         column += 1;
     }
     total
 }
 
-// Answers what the word at a place holds, and sets it to 0 where the ask clears.
-fn visit(memory: &mut [u32], at: usize, clear: bool) -> u64
+// Answers what a pass sees of the word at a place, and leaves there what it leaves.
+fn visit(memory: &mut [u32], at: usize, trial: bool, clear: bool, settle: bool) -> u64
     requires { ⌜ at < length (now memory) ⌝ }
-    ensures { λ r. ⌜ (r ≡ getD (now (memory .entry)) at 0) × (r < 4294967296) ⌝ }
-    ensures { λ _. ⌜ now (memory .exit) ≡ pick clear (set (now (memory .entry)) at 0) (now (memory .entry)) ⌝ }
+    ensures { λ r. ⌜ (r ≡ valueOf (passBy trial clear settle) (getD (now (memory .entry)) at 0)) × (r < 4294967296) ⌝ }
+    ensures { λ _. ⌜ now (memory .exit)
+        ≡ set (now (memory .entry)) at (leftOf (passBy trial clear settle) (getD (now (memory .entry)) at 0)) ⌝ }
 {
-    let word = memory[at] as u64;
-    if clear {
-        memory[at] = 0;
-    }
-    word
+    let word = memory[at];
+    memory[at] = left(trial, clear, settle, word);
+    let amount = either(trial, unless_marked(word), word);
+    amount as u64
 }
 
 // Whether the word at a place is at most full.

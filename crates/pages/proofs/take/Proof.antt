@@ -2,7 +2,8 @@
 -- Assumes nothing.
 use mathlib.Core.Path.{refl}
 use borrow.Author.Needs.{needs}
-use Rattle.pages.proofs.Taking.{check-says, not-taken, sound-inside, walked}
+use Rattle.pages.proofs.Taking.{check-says, not-taken, walked}
+use Rattle.pages.specs.Outcomes.{checked-inside}
 use Rattle.pages.proofs.take.Statement.{statement}
 use Rattle.pages.proofs.take.Tie as tie
 
@@ -10,7 +11,7 @@ walk-window-requires : tie.Need-walk-window-requires
 walk-window-requires c κs =
     let at-check = c .before .before .before in
     let a = at-check .before .before .before .args in
-    sound-inside (a .memory .now) (a .second) (a .window) (check-says _ _ _ (at-check .check .ensures) (c .before .enum-told .given .1))
+    checked-inside (a .memory .now) (a .second) (a .window) (check-says _ _ _ (at-check .check .ensures) (c .before .enum-told .given .1)) .0
 
 returns : tie.Need-returns
 returns c =
@@ -19,7 +20,7 @@ returns c =
     let at-check = at-arm .before .before in
     let a = at-check .before .before .before .args in
     walked (a .memory .now) (a .second) (a .window) _ _ (check-says _ _ _ (at-check .check .ensures) (at-arm .enum-told .given .1))
-    (at-walk .walk-window .ensures)
+    (at-walk .walk-window .ensures .0)
 
 returns-2 : tie.Need-returns-2
 returns-2 c =

@@ -1,22 +1,25 @@
--- `pages::walk::walk_rows` meets its contract. The loop's invariant: memory and sum are those of the walk over the rows passed.
+-- `pages::walk::walk_rows` meets its contract. The loop's invariant: memory and sum are those of the pass over the rows so far.
 -- Assumes nothing.
 use mathlib.Core.Path.{_≡_, _∙_, refl}
 use Prim.Native.Nat.{_+_, _*_, _≤_, _<_, _-_}
 use native.Mathlib.Omega.{arith}
 use lib.ListN.{length}
 use borrow.Author.Needs.{needs}
-use Rattle.pages.proofs.Walking.{walk-step, row-within}
-use Rattle.pages.specs.Meaning.{rowsIn, walkAt, walkOf}
+use Rattle.pages.proofs.Walking.{pass-step, row-within}
+use Rattle.pages.specs.Meaning.{rowsIn, walkAt}
+use Rattle.pages.specs.Flags.{passBy}
+use Rattle.pages.specs.Passes.{passOf}
 use Rattle.pages.proofs.walk.walk_rows.Statement.{statement}
 use Rattle.pages.proofs.walk.walk_rows.Tie as tie
 
 abbrev Inv-loop : tie.InvT-loop
-Inv-loop memory₀ page clear window width rows sum₀ row₀ memory sum row =
-    (row ≤ rows) × (length memory ≡ length memory₀) × (walkAt memory sum ≡ walkOf page clear (walkAt memory₀ 0) (rowsIn window row))
+Inv-loop memory₀ page trial clear settle window width rows sum₀ row₀ memory sum row =
+    (row ≤ rows) × (length memory ≡ length memory₀)
+    × (walkAt memory sum ≡ passOf (passBy trial clear settle) (length memory₀) page (walkAt memory₀ 0) (rowsIn window row))
     × (sum ≤ row * 1099511627776)
 
 abbrev μ-loop : tie.MeasureT-loop
-μ-loop memory₀ page clear window width rows sum₀ row₀ memory sum row = rows - row
+μ-loop memory₀ page trial clear settle window width rows sum₀ row₀ memory sum row = rows - row
 
 loop-holds : tie.Need-loop-holds Inv-loop μ-loop
 loop-holds c = (omega arith, refl, refl, omega arith)
@@ -44,8 +47,8 @@ loop-again c =
     let a = called (at-start .before .before) .args in (
       omega arith,
       walked .kept .0 ∙ loop .inv .1,
-      walk-step (a .page) (a .clear) (walkAt (a .memory .now) 0) (a .window) (loop .memory) (loop .sum) (loop .row) _ _ _ (loop .inv .2)
-          (at-start .row-start .ensures .0) (walked .ensures .0),
+      pass-step (passBy (a .trial) (a .clear) (a .settle)) _ (a .page) (walkAt (a .memory .now) 0) (a .window) (loop .memory) (loop .sum) (loop .row)
+          _ _ _ (loop .inv .2) (loop .inv .1) (at-start .row-start .ensures .0) (walked .ensures .0),
       omega (arith, walked .ensures .1),
     )
 
@@ -55,7 +58,7 @@ same-length c = c .before .loop .inv .1
 returns : tie.Need-returns Inv-loop μ-loop
 returns c =
     let e : c .before .loop .row ≡ called (c .before) .args .window .ysize + 1 = omega arith in
-    rw (← e) (c .before .loop .inv .2)
+    (rw (← e) (c .before .loop .inv .2), omega arith)
 
 pub walk-rows-spec : {M : Type 1} → statement M
 walk-rows-spec =
