@@ -29,6 +29,7 @@ use Rattle.code.specs.Magnitudes.{leading-is, exponent-lt, high-lt, field-lt}
 use Rattle.code.specs.Shapes.{Drop, drop-small, below-led}
 use Rattle.code.specs.Numbers.{shift-is}
 use Rattle.pack.specs.Steps.{Holds, byteBits, PlacePromise}
+use Rattle.pack.specs.Promise.{FieldPromise}
 use Rattle.code.specs.Promise.{PackPromise}
 use Rattle.code.specs.declared.Packed.{Packed}
 use Rattle.code.specs.declared.Packed.the-variants.{Next, OutsideRule as PackedOutsideRule, TooShort}
@@ -476,3 +477,21 @@ pub pack-refuses : (buffer : List ℕ) (at : ℕ) (v : ℤ) (d m : ℕ) → m �
 pack-refuses buffer at v d m em t =
     let rule : inRule v d ≡ false = ap (λ (n : ℕ). dropKnown d && leb n largest) (sym em) ∙ t in
     record { outcome = sym (ap (λ (b : Bool). pick b (placeMeans buffer at (codeOf d v)) (refuse 8 buffer)) rule) }
+
+-- ---- a field of a number
+
+-- at most 32 bits: they are put as a code's are
+pub field-is : (buffer last : List ℕ) (at number width bits : ℕ) (r : Packed) → width ≤ 32 → bits ≡ number % 2 ^ width
+    → PlacePromise buffer at (toBits width bits) r last → FieldPromise buffer at number width r last
+field-is buffer last at number width bits r h e placed =
+    record {
+      outcome =
+          placed .outcome
+          ∙ ap (placeMeans buffer at) (ap (toBits width) e ∙ toBits-rest width number)
+          ∙ sym (ap (λ (b : Bool). pick b (placeMeans buffer at (toBits width number)) (refuse 8 buffer)) (le-leb width 32 h));
+    }
+
+-- more than 32
+pub field-refuses : (buffer : List ℕ) (at number width : ℕ) → 32 < width → FieldPromise buffer at number width PackedOutsideRule buffer
+field-refuses buffer at number width h =
+    record { outcome = sym (ap (λ (b : Bool). pick b (placeMeans buffer at (toBits width number)) (refuse 8 buffer)) (lt-leb width 32 h)) }

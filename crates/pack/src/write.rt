@@ -125,6 +125,14 @@ fn join(number: u64, count: u32, more: u64, width: u32) -> u64
     (number << width) + more
 }
 
+// The last bits of a number.
+pub(crate) fn last(number: u64, width: u32) -> u64
+    requires { ⌜ width < 64 ⌝ }
+    ensures { λ r. ⌜ (r ≡ number % 2 ^ width) × (r < 2 ^ width) ⌝ }
+{
+    number % (1 << width)
+}
+
 // Bits put at a position, the rest of their last byte set to 0; or nothing, where they do not fit.
 pub(crate) fn place(buffer: &mut [u8], at: u64, number: u64, count: u32) -> Packed
     requires { ⌜ (number < 2 ^ count) × (count ≤ 33) ⌝ }
