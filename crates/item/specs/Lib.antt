@@ -1,0 +1,9 @@
+pub mod Inputs
+pub mod Meaning
+pub mod Answers
+pub mod Promise
+pub mod Steps
+pub mod OneOutcome
+pub mod Bits
+pub mod Filling
+pub mod Cases
