@@ -1,0 +1,4 @@
+mod Items
+mod Trying
+mod Returns
+mod Building

@@ -1,0 +1,11 @@
+pub mod Meaning
+pub mod Answers
+pub mod Promise
+pub mod Marks
+pub mod Settling
+pub mod Running
+pub mod Steps
+pub mod Runs
+pub mod Outcomes
+pub mod OneOutcome
+pub mod Sizes
