@@ -122,7 +122,7 @@ fn asked(answer: AskAnswer) {
         AskAnswer::WrongCell => refused(number),
         AskAnswer::AboveFull => refused(number),
         AskAnswer::OutOfTurn => refused(number),
-        AskAnswer::OtherWindow => refused(number),
+        AskAnswer::OtherAsk => refused(number),
     }
 }
 

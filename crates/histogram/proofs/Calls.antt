@@ -7,7 +7,7 @@ use Prim.Native.Nat.{ℕ, _<_, _≤_}
 use lib.ListN.{drop, length, replicate, set}
 use borrow.Author.Tests.{le-leb, lt-leb}
 use Rattle.ground.specs.Outcome.{Outcome, outcomeOf, accept, refuse}
-use Rattle.ground.specs.Paper.{mapped, refused}
+use Rattle.ground.specs.Paper.{mapped}
 use Rattle.pages.specs.Answers.{countPaper, takenPaper}
 use Rattle.pages.specs.Meaning.{sizedOf}
 use Rattle.pages.specs.Promise.{CountPromise, TakePromise}
@@ -16,7 +16,7 @@ use Rattle.pages.specs.declared.Taken.{Taken}
 use Rattle.pages.specs.declared.Window.{Window}
 use Rattle.state.specs.Meaning.{fittingOf}
 use Rattle.state.specs.Turns.{turnOf}
-use Rattle.state.specs.Words.{flagOf, freshIn, keepIn, keptIn, pageIn, stateWords}
+use Rattle.state.specs.Words.{window, flagOf, freshIn, keepIn, keptIn, pageIn, secondAt, stateWords}
 use Rattle.state.specs.declared.Turn.{Turn}
 use Rattle.histogram.specs.Answers.{askPaper, incrementPaper, incrementsPaper}
 use Rattle.histogram.specs.Meaning.{Admits, CallOutcome, Lent, admission, admitted, askMeans, counting, done, flipMeans, incrementMeans}
@@ -28,6 +28,7 @@ use Rattle.histogram.specs.declared.IncrementsAnswer.{IncrementsAnswer}
 
 -- the state's words set to 0, and then 2N put into the first
 pub freshened : (w w₀ : List ℕ) (i n : ℕ) → w ≡ replicate i 0 ++ drop i w₀ → i ≡ stateWords → set w 0 n ≡ freshIn w₀ n
+unfolding freshIn
 freshened w w₀ i n e h = ap (λ (l : List ℕ). set l 0 n) (e ∙ ap (λ (k : ℕ). replicate k 0 ++ drop k w₀) h)
 
 module _ (m w : List ℕ) where
@@ -47,12 +48,7 @@ module _ (m w : List ℕ) where
   unfolding openMeans
   opened h k e f = rw (le-leb stateWords (length w) h, k) (ap₂ (λ x y. accept done (lent x y)) e f)
 
-  -- a memory that fits its state is admitted
-  pub admits : fittingOf (length m) w ≡ true → Admits m w
-  unfolding admission
-  admits h = rw h
-
-  -- one that does not is refused by 13, whatever would come after it
+  -- a memory that does not fit its state is refused by 13, whatever would come after it
   pub by13 : {A : Type 0} (o : Outcome A Lent) → fittingOf (length m) w ≡ false → refuse 13 (lent m w) ≡ admitted m w o
   unfolding admission
   by13 o h = rw h
@@ -71,13 +67,13 @@ module _ (m w : List ℕ) where
   feeds addresses h e r f = rw (h, ← e) (ap (feeding w) f)
 
   -- active and idle exchanged
-  pub flips : Admits m w → {p : Bool} → p ≡ not (pageIn w) → {f : ℕ} → f ≡ flagOf p → accept done (lent m (set w 1 f)) ≡ flipMeans m w
+  pub flips : Admits m w → {p : Bool} → p ≡ not (pageIn w) → {f : ℕ} → f ≡ flagOf p → accept done (lent m (set w secondAt f)) ≡ flipMeans m w
   unfolding flipMeans
-  flips h e g = rw h (ap (λ (x : ℕ). accept done (lent m (set w 1 x))) (g ∙ ap flagOf e))
+  flips h e g = rw h (ap (λ (x : ℕ). accept done (lent m (set w secondAt x))) (g ∙ ap flagOf e))
 
 module _ (m w : List ℕ) (n : ℕ) (v : Window) where
   -- an ask does what its turn says
-  pub asks : Admits m w → {t : Turn} → t ≡ turnOf (keptIn w) n v → {u : Turn} → t ≡ u → {o : CallOutcome}
+  pub asks : Admits m w → {t : Turn} → t ≡ turnOf (keptIn w) n (window v) → {u : Turn} → t ≡ u → {o : CallOutcome}
       → o ≡ turnMeans u m w n v → o ≡ askMeans m w n v
   unfolding askMeans
   asks h e f p = rw (h, ← e, f) p

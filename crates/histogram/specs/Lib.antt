@@ -3,12 +3,4 @@ pub mod Answers
 pub mod Promise
 pub mod OneOutcome
 pub mod States
-pub mod Runs
 pub mod Outcomes
-pub mod Pages
-pub mod Conservation
-pub mod Stays
-pub mod Feeding
-pub mod Repeat
-pub mod Numbers
-pub mod Cases

@@ -12,8 +12,8 @@ use Rattle.pages.specs.Meaning.{countMeans, sizedOf, takeMeans}
 use Rattle.pages.specs.declared.Window.{Window}
 use Rattle.state.specs.Meaning.{fittingOf, roomy}
 use Rattle.state.specs.Turns.{turnOf}
-use Rattle.state.specs.Words.{flipIn, freshIn, keepIn, keptIn, pageIn}
-use Rattle.state.specs.declared.Turn.the-variants.{NewAsk, LastAsk, OtherWindow, OutOfTurn}
+use Rattle.state.specs.Words.{window, flipIn, freshIn, keepIn, keptIn, pageIn}
+use Rattle.state.specs.declared.Turn.the-variants.{NewAsk, LastAsk, OtherAsk, OutOfTurn}
 use Rattle.state.specs.declared.Turn.{Turn}
 
 -- what an accepted call answers: nothing more; an ask's sum, new; an ask's kept sum, again
@@ -107,9 +107,9 @@ newMeans memory state number w = taking state number w (takeMeans memory (not (p
 abbrev pub turnMeans : Turn → List ℕ → List ℕ → ℕ → Window → CallOutcome
 turnMeans NewAsk memory state number w = newMeans memory state number w
 turnMeans (LastAsk sum) memory state number w = accept (again sum) (lent memory state)
-turnMeans OtherWindow memory state number w = refuse 18 (lent memory state)
+turnMeans OtherAsk memory state number w = refuse 18 (lent memory state)
 turnMeans OutOfTurn memory state number w = refuse 17 (lent memory state)
 
 -- an ask; refusals 13, then 18 or 17, 14, 16; a repeat meets only 13
 unfoldable pub askMeans : List ℕ → List ℕ → ℕ → Window → CallOutcome
-askMeans memory state number w = admitted memory state (turnMeans (turnOf (keptIn state) number w) memory state number w)
+askMeans memory state number w = admitted memory state (turnMeans (turnOf (keptIn state) number (window w)) memory state number w)

@@ -1,27 +1,21 @@
--- What a call may answer and leave: to show something of every call, show it of a refusal by any number but 0, an
--- increment, a flip, a new ask and a repeat.
+-- What a call may answer and leave: to show something of it, show it of a refusal by any number but 0, and of what it accepts.
 -- Assumes nothing.
 use mathlib.Core.Bool.{true, not, _&&_}
 use mathlib.Core.Path.{_≡_, refl}
 use mathlib.Core.List.{List}
-use Prim.Native.Nat.{ℕ, _+_, _/_, _<_}
+use Prim.Native.Nat.{ℕ, _<_}
 use native.Mathlib.Omega.{arith}
 use lib.ListN.{length}
 use Rattle.ground.specs.Choice.{pick-elim}
-use Rattle.ground.specs.Outcome.{Outcome, Stays, accept, refuse, onwardTo}
+use Rattle.ground.specs.Outcome.{Outcome, Stays, refuse, onwardTo}
 use Rattle.ground.specs.Paper.{Paper, accepted, refused-not}
 use Rattle.ground.specs.Questions.{both-hold}
-use Rattle.pages.specs.Meaning.{lastOf, putOf, sizedOf, walkTaken, windowWalk, wordOf}
-use Rattle.pages.specs.Outcomes.{count-elim, take-elim}
+use Rattle.pages.specs.Meaning.{sizedOf, walkTaken, windowWalk}
 use Rattle.pages.specs.declared.Window.{Window}
 use Rattle.state.specs.Meaning.{roomy}
-use Rattle.state.specs.Turns.{turnOf}
-use Rattle.state.specs.Words.{flipIn, keptIn, pageIn}
-use Rattle.state.specs.declared.Turn.the-variants.{NewAsk, LastAsk, OtherWindow, OutOfTurn}
-use Rattle.state.specs.declared.Turn.{Turn}
-use Rattle.histogram.specs.Meaning.{Admits, CallOutcome, admission, admitted, again, askMeans, counting, done, flipMeans, incrementMeans}
-use Rattle.histogram.specs.Meaning.{Lent, lent, newMeans, openMeans, taking, turnMeans, freshly}
-use Rattle.histogram.specs.Runs.{Call, increment, flip, ask, callMeans}
+use Rattle.state.specs.Words.{pageIn}
+use Rattle.histogram.specs.Meaning.{Admits, CallOutcome, admission, admitted, done}
+use Rattle.histogram.specs.Meaning.{Fed, Lent, feedOf, feeding, incrementsMeans, lent, openMeans, taking, freshly}
 use Rattle.histogram.specs.States.{admission-elim}
 
 -- an accepted opening: the memory's length is one that opening takes, its words are 0, and the state is fresh
@@ -58,47 +52,10 @@ module _ (m w : List ℕ) where
 abbrev pub newTaken : List ℕ → List ℕ → ℕ → Window → CallOutcome
 newTaken m w number v = taking w number v (walkTaken (windowWalk m (not (pageIn w)) v))
 
-module _ (P : Call → CallOutcome → Type 0) (m w : List ℕ) (refuses : (c : Call) (n : ℕ) → 0 < n → P c (refuse n (lent m w))) where
-  -- an ask of any turn
-  turn-elim : ((number : ℕ) (v : Window) → lastOf v < length m / 2 → turnOf (keptIn w) number v ≡ NewAsk
-      → P (ask number v) (newTaken m w number v))
-      → ((number sum : ℕ) (v : Window) → P (ask number v) (accept (again sum) (lent m w)))
-      → (number : ℕ) (v : Window) (t : Turn) → turnOf (keptIn w) number v ≡ t → P (ask number v) (turnMeans t m w number v)
-  unfolding newMeans
-  turn-elim asked repeated number v NewAsk e =
-      take-elim (λ (o : Outcome ℕ (List ℕ)). P (ask number v) (taking w number v o)) m (not (pageIn w)) v
-      (λ h. asked number v h e)
-      (refuses (ask number v))
-  turn-elim asked repeated number v (LastAsk sum) e = repeated number sum v
-  turn-elim asked repeated number v OtherWindow e = refuses (ask number v) 18 (omega arith)
-  turn-elim asked repeated number v OutOfTurn e = refuses (ask number v) 17 (omega arith)
-
-  -- every call: a refusal, an increment, a flip, a new ask, a repeat
-  pub call-elim : (Admits m w → (address : ℕ) → address < length m / 2
-      → P (increment address) (accept done (lent (putOf m (pageIn w) address (wordOf m (pageIn w) address + 1)) w)))
-      → (Admits m w → P flip (accept done (lent m (flipIn w))))
-      → (Admits m w → (number : ℕ) (v : Window) → lastOf v < length m / 2 → turnOf (keptIn w) number v ≡ NewAsk
-      → P (ask number v) (newTaken m w number v))
-      → (Admits m w → (number sum : ℕ) (v : Window) → P (ask number v) (accept (again sum) (lent m w)))
-      → (c : Call) → P c (callMeans m w c)
-  unfolding incrementMeans flipMeans askMeans
-  call-elim counted flipped asked repeated (increment address) =
-      admitted-elim m w (P (increment address)) _
-      (λ h. count-elim (λ (o : Outcome (Unit {0}) (List ℕ)). P (increment address) (counting w o)) m (pageIn w) address
-      (counted h address)
-      (refuses (increment address)))
-      (refuses (increment address))
-  call-elim counted flipped asked repeated flip = admitted-elim m w (P flip) _ flipped (refuses flip)
-  call-elim counted flipped asked repeated (ask number v) =
-      admitted-elim m w (P (ask number v)) _
-      (λ h. turn-elim (asked h) (repeated h) number v (turnOf (keptIn w) number v) refl)
-      (refuses (ask number v))
-
--- demand 1 of every call on an opened memory: refused, it leaves memory and state as they were
-pub call-stays : (m w : List ℕ) (c : Call) → Stays (lent m w) (callMeans m w c)
-call-stays m w =
-    call-elim (λ c o. Stays (lent m w) o) m w (λ c n z f. refl)
-    (λ h a k f. absurd (f refl))
-    (λ h f. absurd (f refl))
-    (λ h number v k t f. absurd (f refl))
-    (λ h number sum v f. absurd (f refl))
+-- many increments in one call: a run on the active page, or a refusal that leaves memory and state
+pub increments-elim : (m w addresses : List ℕ) (P : Outcome Fed Lent → Type 0)
+    → (Admits m w → P (feeding w (feedOf 0 m (pageIn w) addresses)))
+    → ((n : ℕ) → 0 < n → P (refuse n (lent m w)))
+    → P (incrementsMeans m w addresses)
+unfolding incrementsMeans
+increments-elim m w addresses P p q = admitted-elim m w P (feeding w (feedOf 0 m (pageIn w) addresses)) p q

@@ -14,12 +14,12 @@ use Rattle.ground.specs.Paper.{Paper, accepted, refusal, refused, refused-not}
 use Rattle.pages.specs.Meaning.{countMeans, sizedOf}
 use Rattle.pages.specs.declared.Window.{Window}
 use Rattle.state.specs.Meaning.{fittingOf, roomy}
-use Rattle.state.specs.Words.{Kept, Last, Nothing, flagIn, flagOf, flipIn, freshIn, keepIn, keptIn, pageIn, stateWords}
+use Rattle.state.specs.Words.{window, Kept, Last, Nothing, flagIn, flagOf, flipIn, freshIn, keepIn, keptIn, pageIn, stateWords, wordsAt}
 use Rattle.histogram.specs.Meaning.{Admits, admission, counting, incrementMeans, lent}
 
--- what holds of ten words and any rest holds of ten words or more
+-- what holds of ten words and any rest holds of a state's words
 pub ten : (P : List ℕ → Type 0) → ((a b c d e f g h i j : ℕ) (l : List ℕ) → P (a ∷ b ∷ c ∷ d ∷ e ∷ f ∷ g ∷ h ∷ i ∷ j ∷ l))
-    → (l : List ℕ) → 10 ≤ length l → P l
+    → (l : List ℕ) → stateWords ≤ length l → P l
 ten P p [] n = absurd (omega arith)
 ten P p (a ∷ []) n = absurd (omega arith)
 ten P p (a ∷ b ∷ []) n = absurd (omega arith)
@@ -37,6 +37,11 @@ pub admission-elim : (P : Paper (Unit {0}) → Type 0) (m w : List ℕ) → (fit
     → ((n : ℕ) → 0 < n → P (refused n)) → P (admission m w)
 unfolding admission
 admission-elim P m w p q = pick-elim P (fittingOf (length m) w) _ _ p (λ h. q 13 (omega arith))
+
+-- on a memory that fits its state a call may go on
+pub admits : (m w : List ℕ) → fittingOf (length m) w ≡ true → Admits m w
+unfolding admission
+admits m w h = rw h
 
 -- where a call may go on, a state's words were lent
 pub admits-long : (m w : List ℕ) → Admits m w → stateWords ≤ length w
@@ -56,6 +61,7 @@ Says w page kept = (pageIn w ≡ page) × (keptIn w ≡ kept)
 
 -- opened: the first page is active and nothing is kept
 pub fresh-says : (w : List ℕ) (n : ℕ) → Says (freshIn w n) false Nothing
+unfolding freshIn
 fresh-says w n = (refl, refl)
 
 -- flipped: the other page is active, and what is kept stays
@@ -63,13 +69,13 @@ pub flip-says : (w : List ℕ) → stateWords ≤ length w → Says (flipIn w) (
 flip-says w = ten (λ l. Says (flipIn l) (not (pageIn l)) (keptIn l)) (λ a b c d e f g h i j l. (flag-home (not (flagIn b)), refl)) w
 
 -- a new ask: the page stays, and the ask is kept
-pub keep-says : (w : List ℕ) (n : ℕ) (v : Window) (sum : ℕ) → stateWords ≤ length w → Says (keepIn w n v sum) (pageIn w) (Last n v sum)
+pub keep-says : (w : List ℕ) (n : ℕ) (v : Window) (sum : ℕ) → stateWords ≤ length w → Says (keepIn w n v sum) (pageIn w) (Last n (window v) sum)
 keep-says w n v sum =
-    ten (λ l. Says (keepIn l n v sum) (pageIn l) (Last n v sum)) (λ a b c d e f g h i j l. (refl, rw (flag-home (v .clear)))) w
+    ten (λ l. Says (keepIn l n v sum) (pageIn l) (Last n (window v) sum)) (λ a b c d e f g h i j l. (refl, rw (flag-home (v .clear)))) w
 
 -- an opened memory fits its state: calls on the two may go on
 pub fresh-admits : (m w : List ℕ) → sizedOf (length m) ≡ true → Admits m (freshIn w (length m))
-unfolding admission
+unfolding admission freshIn
 fresh-admits m w h =
     let n = length m in
     rw (le-leb stateWords (length (freshIn w n)) (omega arith), h, eq-eqb n n refl)
@@ -77,7 +83,7 @@ fresh-admits m w h =
 -- no call changes how many words are lent, 2N, or a word past the state's
 pub record Framed (w v : List ℕ) : Type 0 where
   pub long : length v ≡ length w
-  pub size : getD v 0 0 ≡ getD w 0 0
+  pub size : getD v wordsAt 0 ≡ getD w wordsAt 0
   pub rest : drop stateWords v ≡ drop stateWords w
 
 -- the same words

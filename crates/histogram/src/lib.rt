@@ -26,6 +26,7 @@ use state::SECOND;
 pub use state::STATE_WORDS;
 use state::SUM;
 use state::Turn;
+use state::WINDOW_ASK;
 use state::WORDS;
 use state::XSIZE;
 use state::YSIZE;
@@ -68,7 +69,7 @@ pub enum AskAnswer {
     WrongCell,
     AboveFull,
     OutOfTurn,
-    OtherWindow,
+    OtherAsk,
 }
 
 // Takes 2N words, sets them all to 0, and makes the state: the first page active, nothing kept.
@@ -130,7 +131,7 @@ pub fn ask(memory: &mut [u32], state: &mut [u64], number: u16, window: Window) -
     match turn {
         Turn::NewAsk => new_ask(memory, state, number, window),
         Turn::LastAsk(sum) => again(sum),
-        Turn::OtherWindow => AskAnswer::OtherWindow,
+        Turn::OtherAsk => AskAnswer::OtherAsk,
         Turn::OutOfTurn => AskAnswer::OutOfTurn,
     }
 }
@@ -179,7 +180,7 @@ pub fn ask_number(a: AskAnswer) -> u8
         AskAnswer::WrongCell => 14,
         AskAnswer::AboveFull => 16,
         AskAnswer::OutOfTurn => 17,
-        AskAnswer::OtherWindow => 18,
+        AskAnswer::OtherAsk => 18,
     }
 }
 
@@ -301,7 +302,7 @@ fn keep(state: &mut [u64], number: u16, window: Window, sum: u64) -> AskAnswer
     requires { ⌜ stateWords ≤ length (now state) ⌝ }
     ensures { λ r. ⌜ (r ≡ AskAnswer.New sum) × (now (state .exit) ≡ keepIn (now (state .entry)) number window sum) ⌝ }
 {
-    state[KEPT] = 1;
+    state[KEPT] = WINDOW_ASK;
     state[NUMBER] = number as u64;
     state[ADDRESS] = window.address as u64;
     state[XSIZE] = window.xsize as u64;

@@ -1,7 +1,7 @@
 -- 13, whose turn it is and the next number, one law a return.
 -- Assumes nothing.
 use mathlib.Core.Path.{_≡_}
-use mathlib.Core.Bool.{true, false}
+use mathlib.Core.Bool.{Bool, true, false}
 use mathlib.Core.List.{List}
 use Prim.Native.Nat.{ℕ, _<_, _≤_}
 use lib.Dec.{eqb}
@@ -9,10 +9,9 @@ use lib.ListN.{getD, length}
 use borrow.Author.Tests.{eq-eqb, le-leb, lt-leb, ne-eqb}
 use Rattle.ground.specs.Paper.{accepted, refused}
 use Rattle.pages.specs.Meaning.{sizedOf}
-use Rattle.pages.specs.declared.Window.{Window}
-use Rattle.state.specs.Meaning.{fittingOf, nextAfterLast, nextMeans, turnIn}
-use Rattle.state.specs.Turns.{turnOf}
-use Rattle.state.specs.Words.{keptIn, stateWords}
+use Rattle.state.specs.Meaning.{fittingOf, nextAfterLast, nextMeans, turnBy}
+use Rattle.state.specs.Turns.{turnTold}
+use Rattle.state.specs.Words.{keptAt, keptIn, numberAt, stateWords, wordsAt}
 use Rattle.state.specs.declared.Turn.{Turn}
 use Rattle.state.specs.declared.Turn.the-variants.{OutOfTurn}
 
@@ -26,7 +25,7 @@ module _ (n : ℕ) (w : List ℕ) where
   fits-odd h k = rw (le-leb stateWords (length w) h, k)
 
   -- the test on 2N
-  pub fits-last : stateWords ≤ length w → sizedOf n ≡ true → eqb n (getD w 0 0) ≡ fittingOf n w
+  pub fits-last : stateWords ≤ length w → sizedOf n ≡ true → eqb n (getD w wordsAt 0) ≡ fittingOf n w
   fits-last h k = rw (le-leb stateWords (length w) h, k)
 
 module _ (w : List ℕ) where
@@ -36,20 +35,20 @@ module _ (w : List ℕ) where
   next-short h = rw (lt-leb stateWords (length w) h)
 
   -- nothing is kept
-  pub next-first : stateWords ≤ length w → getD w 2 0 ≡ 0 → accepted 1 ≡ nextMeans w
+  pub next-first : stateWords ≤ length w → getD w keptAt 0 ≡ 0 → accepted 1 ≡ nextMeans w
   unfolding nextMeans
-  next-first h e = rw (le-leb stateWords (length w) h, eq-eqb (getD w 2 0) 0 e)
+  next-first h e = rw (le-leb stateWords (length w) h, eq-eqb (getD w keptAt 0) 0 e)
 
   -- an ask is kept
-  pub next-last : stateWords ≤ length w → (getD w 2 0 ≡ 0 → ⊥) → nextAfterLast (getD w 3 0) ≡ nextMeans w
+  pub next-last : stateWords ≤ length w → (getD w keptAt 0 ≡ 0 → ⊥) → nextAfterLast (getD w numberAt 0) ≡ nextMeans w
   unfolding nextMeans
-  next-last h n = rw (le-leb stateWords (length w) h, ne-eqb (getD w 2 0) 0 n)
+  next-last h n = rw (le-leb stateWords (length w) h, ne-eqb (getD w keptAt 0) 0 n)
 
-module _ (w : List ℕ) (number : ℕ) (v : Window) where
+module _ (w : List ℕ) (number : ℕ) (same : Bool) where
   -- fewer words than a state takes are nobody's turn
-  pub turn-short : length w < stateWords → OutOfTurn ≡ turnIn w number v
+  pub turn-short : length w < stateWords → OutOfTurn ≡ turnBy w number same
   turn-short h = rw (lt-leb stateWords (length w) h)
 
   -- else the turn is what they keep
-  pub turn-said : stateWords ≤ length w → {t : Turn} → t ≡ turnOf (keptIn w) number v → t ≡ turnIn w number v
+  pub turn-said : stateWords ≤ length w → {t : Turn} → t ≡ turnTold (keptIn w) number same → t ≡ turnBy w number same
   turn-said h e = rw (le-leb stateWords (length w) h) e

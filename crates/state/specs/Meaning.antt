@@ -9,8 +9,8 @@ use Rattle.ground.specs.Choice.{pick}
 use Rattle.ground.specs.Paper.{Paper, accepted, refused}
 use Rattle.pages.specs.Meaning.{sizedOf}
 use Rattle.pages.specs.declared.Window.{Window}
-use Rattle.state.specs.Turns.{nextOf, turnOf}
-use Rattle.state.specs.Words.{Kept, Last, Nothing, keptIn, stateWords}
+use Rattle.state.specs.Turns.{nextOf, sameAsked, turnOf, turnTold}
+use Rattle.state.specs.Words.{Asked, window, Kept, Last, Nothing, askedIn, keptIn, numberAt, stateWords, wordsAt}
 use Rattle.state.specs.declared.Turn.{Turn}
 use Rattle.state.specs.declared.Turn.the-variants.{OutOfTurn}
 
@@ -20,11 +20,19 @@ roomy state = leb stateWords (length state)
 
 -- 13: "memory length odd, outside 2 to 524,288, or not the state's 2N"; where this fails, or fewer words than a state takes are lent
 abbrev pub fittingOf : ℕ → List ℕ → Bool
-fittingOf words state = roomy state && (sizedOf words && eqb words (getD state 0 0))
+fittingOf words state = roomy state && (sizedOf words && eqb words (getD state wordsAt 0))
 
 -- whose turn it is beside a state's words; fewer words than a state takes are nobody's
-abbrev pub turnIn : List ℕ → ℕ → Window → Turn
-turnIn state number w = pick (roomy state) (turnOf (keptIn state) number w) OutOfTurn
+abbrev pub turnIn : List ℕ → ℕ → Asked → Turn
+turnIn state number a = pick (roomy state) (turnOf (keptIn state) number a) OutOfTurn
+
+-- the same, told whether the ask asks for the same as the kept one
+abbrev pub turnBy : List ℕ → ℕ → Bool → Turn
+turnBy state number same = pick (roomy state) (turnTold (keptIn state) number same) OutOfTurn
+
+-- whether an ask of a window bears the last number and asks for the same as the kept one
+abbrev pub repeatsIn : List ℕ → ℕ → Window → Bool
+repeatsIn state number w = roomy state && (eqb number (getD state numberAt 0) && sameAsked (askedIn state) (window w))
 
 -- "A new ask bears the number after the last accepted, 1 after opening, 0 after 65535"; 13 for a last number that no ask bears
 abbrev pub nextAfterLast : ℕ → Paper ℕ
@@ -33,7 +41,7 @@ nextAfterLast number = pick (leb number 65535) (accepted (nextOf number)) (refus
 -- the same after what is kept
 abbrev pub nextAfter : Kept → Paper ℕ
 nextAfter Nothing = accepted 1
-nextAfter (Last number w sum) = nextAfterLast number
+nextAfter (Last number a sum) = nextAfterLast number
 
 -- the number of the next new ask; refusal 13, also for fewer words than a state takes
 unfoldable pub nextMeans : List ℕ → Paper ℕ

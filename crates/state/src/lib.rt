@@ -4,18 +4,25 @@ ghost use Prim.Native.Nat.{_≤_};
 ghost use lib.Dec.{eqb};
 ghost use lib.ListN.{getD, length};
 ghost use Rattle.ground.specs.Paper.{numberOf};
-ghost use Rattle.state.specs.Words.{lastIn, stateWords, windowIn};
-ghost use Rattle.state.specs.Turns.{nextOf, sameFlag, sameOf, turnOf};
-ghost use Rattle.state.specs.Meaning.{fittingOf, nextAfterLast, turnIn};
+ghost use Rattle.state.specs.Words.{Asked, askedIn, lastIn, numberAt, stateWords, sumAt, windowIn};
+ghost use Rattle.state.specs.Turns.{nextOf, sameAsked, sameFlag, sameOf, turnTold};
+ghost use Rattle.state.specs.Meaning.{fittingOf, nextAfterLast, repeatsIn, turnBy, turnIn};
 ghost use Rattle.state.specs.Answers.{nextPaper};
 ghost use Rattle.state.specs.Promise.{NextPromise};
 use pages::Window;
 use pages::sized;
 
-// How many words a state takes.
-pub const STATE_WORDS: usize = 10;
+// How many items the table of a kept packet has at most, and how many bytes the packet.
+pub const MOST_ITEMS: usize = 64;
 
-// Where each stands: the memory's words (2N); whether the second page is active; whether an ask is kept; its number, its window, its sum.
+pub const MOST_BYTES: usize = 243;
+
+// What is kept, by its word: a window's ask, a packet's.
+pub const WINDOW_ASK: u64 = 1;
+
+pub const PACKET_ASK: u64 = 2;
+
+// Where each stands: the memory's words (2N); whether the second page is active; what is kept; its number, its window, its sum or total.
 pub const WORDS: usize = 0;
 
 pub const SECOND: usize = 1;
@@ -36,11 +43,31 @@ pub const CLEAR: usize = 8;
 
 pub const SUM: usize = 9;
 
-// A new ask; the last one repeated, with its kept sum; the last number with another window; or out of turn.
+// Then a kept packet's inputs; how many items its table has, and the items; how many bytes the packet has, and the bytes, one a word.
+pub const LOW: usize = 10;
+
+pub const FLAGS: usize = 11;
+
+pub const INITIAL: usize = 12;
+
+pub const SECOND_OF_HOUR: usize = 13;
+
+pub const ITEM_COUNT: usize = 14;
+
+pub const ITEMS: usize = 15;
+
+pub const BYTE_COUNT: usize = ITEMS + MOST_ITEMS;
+
+pub const BYTES: usize = BYTE_COUNT + 1;
+
+// How many words a state takes.
+pub const STATE_WORDS: usize = BYTES + MOST_BYTES;
+
+// A new ask; the last one repeated, with its kept sum or total; the last number with another ask; or out of turn.
 pub enum Turn {
     NewAsk,
     LastAsk(u64),
-    OtherWindow,
+    OtherAsk,
     OutOfTurn,
 }
 
@@ -65,13 +92,20 @@ pub fn fitting(words: usize, state: &[u64]) -> bool
 
 // What an ask's number and window make it, beside what is kept.
 pub fn turn_of(state: &[u64], number: u16, window: Window) -> Turn
-    ensures { λ r. ⌜ r ≡ turnIn (now (state .entry)) number window ⌝ }
+    ensures { λ r. ⌜ r ≡ turnIn (now (state .entry)) number (Asked.window window) ⌝ }
+{
+    turn_by(state, number, repeats(state, number, window))
+}
+
+// What an ask's number makes it, beside what is kept, told whether it asks for the same as the kept one.
+pub fn turn_by(state: &[u64], number: u16, same: bool) -> Turn
+    ensures { λ r. ⌜ r ≡ turnBy (now (state .entry)) number same ⌝ }
 {
     if state.len() < STATE_WORDS {
         return Turn::OutOfTurn;
     }
     if state[KEPT] != 0 {
-        return turn_after(state, number, window);
+        return turn_after(state, number, same);
     }
     if number == 1 {
         Turn::NewAsk
@@ -103,16 +137,29 @@ pub fn next_number(a: NextAnswer) -> u8
     }
 }
 
-// What an ask's number and window make it after an accepted ask.
-fn turn_after(state: &[u64], number: u16, window: Window) -> Turn
+// Whether an ask of a window bears the last number and asks for the same as the kept one.
+fn repeats(state: &[u64], number: u16, window: Window) -> bool
+    ensures { λ r. ⌜ r ≡ repeatsIn (now (state .entry)) number window ⌝ }
+{
+    if state.len() < STATE_WORDS {
+        return false;
+    }
+    if is_last(state, number) {
+        return same_ask(state, window);
+    }
+    false
+}
+
+// What an ask's number makes it after an accepted ask, told whether it asks for the same.
+fn turn_after(state: &[u64], number: u16, same: bool) -> Turn
     requires { ⌜ stateWords ≤ length (now state) ⌝ }
-    ensures { λ r. ⌜ r ≡ turnOf (lastIn (now (state .entry))) number window ⌝ }
+    ensures { λ r. ⌜ r ≡ turnTold (lastIn (now (state .entry))) number same ⌝ }
 {
     if is_last(state, number) {
-        if same_window(state, window) {
+        if same {
             last_ask(state)
         } else {
-            Turn::OtherWindow
+            Turn::OtherAsk
         }
     } else if follows(number, state[NUMBER]) {
         Turn::NewAsk
@@ -124,7 +171,7 @@ fn turn_after(state: &[u64], number: u16, window: Window) -> Turn
 // Whether a number is that of the kept ask.
 fn is_last(state: &[u64], number: u16) -> bool
     requires { ⌜ stateWords ≤ length (now state) ⌝ }
-    ensures { λ r. ⌜ r ≡ eqb number (getD (now (state .entry)) 3 0) ⌝ }
+    ensures { λ r. ⌜ r ≡ eqb number (getD (now (state .entry)) numberAt 0) ⌝ }
 {
     number as u64 == state[NUMBER]
 }
@@ -132,7 +179,7 @@ fn is_last(state: &[u64], number: u16) -> bool
 // The kept ask repeated, with its sum.
 fn last_ask(state: &[u64]) -> Turn
     requires { ⌜ stateWords ≤ length (now state) ⌝ }
-    ensures { λ r. ⌜ r ≡ Turn.LastAsk (getD (now (state .entry)) 9 0) ⌝ }
+    ensures { λ r. ⌜ r ≡ Turn.LastAsk (getD (now (state .entry)) sumAt 0) ⌝ }
 {
     Turn::LastAsk(state[SUM])
 }
@@ -148,6 +195,17 @@ fn follows(number: u16, last: u64) -> bool
         return false;
     }
     number as u64 == last + 1
+}
+
+// Whether the kept ask is one of this window; a packet's is not.
+fn same_ask(state: &[u64], window: Window) -> bool
+    requires { ⌜ stateWords ≤ length (now state) ⌝ }
+    ensures { λ r. ⌜ r ≡ sameAsked (askedIn (now (state .entry))) (Asked.window window) ⌝ }
+{
+    if state[KEPT] == PACKET_ASK {
+        return false;
+    }
+    same_window(state, window)
 }
 
 // Whether the kept window is this one, clear or keep included.

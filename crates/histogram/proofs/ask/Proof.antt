@@ -4,10 +4,11 @@ use mathlib.Core.Path.{_≡_, refl, _∙_}
 use borrow.Author.Needs.{needs}
 use Rattle.ground.specs.Questions.{answered-no, answered-yes}
 use Rattle.state.specs.Laws.{turn-kept}
+use Rattle.state.specs.Words.{window}
 use Rattle.state.specs.declared.Turn.{Turn}
-use Rattle.histogram.proofs.Calls.{admits, by13, asks, repeats}
+use Rattle.histogram.proofs.Calls.{by13, asks, repeats}
 use Rattle.histogram.specs.Meaning.{Admits, CallOutcome, askMeans, turnMeans}
-use Rattle.histogram.specs.States.{admits-long}
+use Rattle.histogram.specs.States.{admits, admits-long}
 use Rattle.histogram.proofs.ask.Statement.{statement}
 use Rattle.histogram.proofs.ask.Tie as tie
 
@@ -26,7 +27,7 @@ says : (c : tie.After-turn-of) {u : Turn} → c .turn-of .result ≡ u → {o : 
 says c e p =
     let a = called (c .before .before) .args in
     let go = fits (c .before .before) in
-    let turn = turn-kept (a .state .now) (a .number) (a .window) (admits-long _ _ go) in
+    let turn = turn-kept (a .state .now) (a .number) (window (a .window)) (admits-long _ _ go) in
     asks (a .memory .now) (a .state .now) (a .number) (a .window) go (c .turn-of .ensures ∙ turn) e p
 
 returns : tie.Need-returns

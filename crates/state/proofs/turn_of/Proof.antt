@@ -1,36 +1,17 @@
--- `turn_of` meets its contract: too few words are nobody's turn; else after an ask that is kept, or after none.
+-- `turn_of` meets its contract: the turn by the number, told whether the ask repeats the kept one.
 -- Assumes nothing.
+use mathlib.Core.Path.{ap, _∙_}
 use borrow.Author.Needs.{needs}
-use Rattle.state.proofs.Saying.{turn-short, turn-said}
-use Rattle.state.proofs.Turning.{after-last, first, not-first}
+use Rattle.state.specs.Laws.{turn-repeats}
+use Rattle.state.specs.Meaning.{turnBy}
 use Rattle.state.proofs.turn_of.Statement.{statement}
 use Rattle.state.proofs.turn_of.Tie as tie
 
 returns : tie.Need-returns
 returns c =
-    let a = c .before .before .args in
-    turn-short (a .state .now) (a .number) (a .window) (c .if1 .taken)
-
-returns-2 : tie.Need-returns-2
-returns-2 c =
-    let at-if = c .before in
-    let a = at-if .before .before .before .before .args in
-    turn-said (a .state .now) (a .number) (a .window) (search needs)
-    (after-last (a .state .now) (a .number) (a .window) (at-if .if2 .taken) (c .turn-after .ensures))
-
-returns-3 : tie.Need-returns-3
-returns-3 c =
-    let at-if = c .before in
-    let a = at-if .before .before .before .before .args in
-    turn-said (a .state .now) (a .number) (a .window) (search needs)
-    (first (a .state .now) (a .number) (a .window) (at-if .if2 .left) (c .if3 .taken))
-
-returns-4 : tie.Need-returns-4
-returns-4 c =
-    let at-if = c .before in
-    let a = at-if .before .before .before .before .args in
-    turn-said (a .state .now) (a .number) (a .window) (search needs)
-    (not-first (a .state .now) (a .number) (a .window) (at-if .if2 .left) (c .if3 .left))
+    let told = c .before in
+    let a = told .before .before .args in
+    c .turn-by .ensures ∙ ap (turnBy (a .state .now) (a .number)) (told .repeats .ensures) ∙ turn-repeats (a .state .now) (a .number) (a .window)
 
 pub turn-of-spec : {M : Type 1} → statement M
-turn-of-spec = tie.close (tie.spec returns (λ c. search needs) (λ c κs. search needs) returns-2 returns-3 returns-4)
+turn-of-spec = tie.close (tie.spec (λ c κs. search needs) (λ c κs. search needs) returns)

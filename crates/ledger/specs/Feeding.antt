@@ -8,15 +8,15 @@ use native.Mathlib.Nat.{add-zero}
 use native.Mathlib.Omega.{arith}
 use lib.ListN.{length, take, getD}
 use Rattle.ground.specs.Outcome.{Outcome, Stays, refuse}
-use Rattle.ground.specs.Paper.{Paper, accepted, refusal, refused, mapped, numberOf, refused-not}
+use Rattle.ground.specs.Paper.{Paper, accepted, refusal, mapped, numberOf, refused-not}
 use Rattle.pages.specs.Meaning.{countMeans}
 use Rattle.pages.specs.Outcomes.{count-elim}
 use Rattle.state.specs.Words.{pageIn}
-use Rattle.histogram.specs.Meaning.{Admits, CallOutcome, Fed, Lent, counting, done, feedOf, feeding, goesOn, incrementMeans, incrementsMeans}
-use Rattle.histogram.specs.Meaning.{lent}
-use Rattle.histogram.specs.Runs.{Call, increment, flip, ask, Ledger, NoNew, acceptedBy, answered, callMeans, isNew, run, step}
-use Rattle.histogram.specs.Outcomes.{admitted-elim, call-elim}
-use Rattle.histogram.specs.Stays.{call-admits}
+use Rattle.histogram.specs.Meaning.{Admits, CallOutcome, Fed, counting, done, feedOf, goesOn, incrementMeans, incrementsMeans, lent}
+use Rattle.histogram.specs.Outcomes.{increments-elim}
+use Rattle.ledger.specs.Runs.{Call, increment, flip, ask, askPacket, Ledger, NoNew, acceptedBy, answered, callMeans, isNew, run, step}
+use Rattle.ledger.specs.Outcomes.{call-elim}
+use Rattle.ledger.specs.Stays.{call-admits}
 
 -- what a run of increments from a ledger leaves: the first so many, one by one, all of them accepted; it ended at the address that would be refused
 -- next, by that refusal's number, or with the last
@@ -148,14 +148,6 @@ feed-run (a ∷ rest) before l h =
           next = λ k. sym (counts-number l a h ∙ ap numberOf e);
         }
 
--- many increments in one call: a run on the active page, or a refusal that leaves memory and state
-pub increments-elim : (m w addresses : List ℕ) (P : Outcome Fed Lent → Type 0)
-    → (Admits m w → P (feeding w (feedOf 0 m (pageIn w) addresses)))
-    → ((n : ℕ) → 0 < n → P (refuse n (lent m w)))
-    → P (incrementsMeans m w addresses)
-unfolding incrementsMeans
-increments-elim m w addresses P p q = admitted-elim m w P (feeding w (feedOf 0 m (pageIn w) addresses)) p q
-
 -- demand 1 of it: refused, it leaves memory and state as they were
 pub increments-stays : (m w addresses : List ℕ) → Stays (lent m w) (incrementsMeans m w addresses)
 increments-stays m w addresses =
@@ -168,15 +160,18 @@ abbrev Old : Call → CallOutcome → Type 0
 Old (increment address) o = isNew (o .answer) ≡ false
 Old flip o = Unit {0}
 Old (ask number v) o = Unit {0}
+Old (askPacket number i buffer) o = Unit {0}
 
 refusal-old : (m w : List ℕ) (c : Call) (n : ℕ) → Old c (refuse n (lent m w))
 refusal-old m w (increment address) n = refl
 refusal-old m w flip n = tt
 refusal-old m w (ask number v) n = tt
+refusal-old m w (askPacket number i buffer) n = tt
 
 increment-old : (m w : List ℕ) (a : ℕ) → isNew (callMeans m w (increment a) .answer) ≡ false
 increment-old m w a =
-    call-elim Old m w (λ c n z. refusal-old m w c n) (λ h b k. refl) (λ h. tt) (λ h number v k t. tt) (λ h number sum v. tt) (increment a)
+    call-elim Old m w (λ c n z. refusal-old m w c n) (λ h b k. refl) (λ h. tt) (λ h number v k t. tt) (λ h number sum v. tt)
+    (λ h number i buffer r few e t. tt) (λ h number total i buffer. tt) (increment a)
 
 -- nor is any of a run
 pub run-old : (l : Ledger) (addresses : List ℕ) → NoNew l (map increment addresses)

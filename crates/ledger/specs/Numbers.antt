@@ -12,21 +12,22 @@ use Rattle.ground.specs.Choice.{pick-elim}
 use Rattle.ground.specs.Paper.{accepted, refused}
 use Rattle.ground.specs.Questions.{both-ways}
 use Rattle.pages.specs.declared.Window.{Window}
-use Rattle.state.specs.Turns.{nextOf, sameOf, turnOf}
-use Rattle.state.specs.Words.{Kept, Last, Nothing, freshIn, keptIn}
-use Rattle.state.specs.declared.Turn.the-variants.{NewAsk, LastAsk, OtherWindow, OutOfTurn}
+use Rattle.state.specs.Turns.{nextOf, sameAsked, turnOf}
+use Rattle.state.specs.Words.{Asked, window, Kept, Last, Nothing, freshIn, keptIn}
+use Rattle.state.specs.declared.Turn.the-variants.{NewAsk, LastAsk, OtherAsk, OutOfTurn}
 use Rattle.state.specs.declared.Turn.{Turn}
 use Rattle.histogram.specs.Meaning.{Admits, CallOutcome, admission, askMeans, done, new, openMeans}
 use Rattle.histogram.specs.Outcomes.{is-opened}
-use Rattle.histogram.specs.Repeat.{is-new, stays-kept}
-use Rattle.histogram.specs.Runs.{Call, ask, Ledger, NoNew, answered, opening, run, step}
-use Rattle.histogram.specs.States.{fresh-admits, framed-admits, framed-same}
-use Rattle.histogram.specs.Stays.{run-stays}
+use Rattle.item.specs.Inputs.{Inputs}
+use Rattle.ledger.specs.Repeat.{is-new, is-new-packet, stays-kept}
+use Rattle.ledger.specs.Runs.{Call, ask, askPacket, Ledger, NoNew, answered, opening, run, step}
+use Rattle.histogram.specs.States.{fresh-admits, fresh-says, framed-admits, framed-same}
+use Rattle.ledger.specs.Stays.{run-stays}
 
 -- the number that a new ask must bear, beside what is kept: "the number after the last accepted, 1 after opening"
 abbrev pub turnNumber : Kept → ℕ
 turnNumber Nothing = 1
-turnNumber (Last k v sum) = nextOf k
+turnNumber (Last k a sum) = nextOf k
 
 -- "0 after 65535", else one more
 pub after-65535 : nextOf 65535 ≡ 0
@@ -40,7 +41,7 @@ after-others n h = rw (ne-eqb n 65535 h)
 abbrev newTurn : Turn → Bool
 newTurn NewAsk = true
 newTurn (LastAsk sum) = false
-newTurn OtherWindow = false
+newTurn OtherAsk = false
 newTurn OutOfTurn = false
 
 -- a turn that is none is not
@@ -48,14 +49,14 @@ not-new : {t : Turn} → newTurn t ≡ false → t ≡ NewAsk → ⊥
 not-new f e = both-ways (ap newTurn e) f
 
 -- a turn that is a new ask's bears the number whose turn it is
-pub new-number : (k : Kept) (number : ℕ) (w : Window) → turnOf k number w ≡ NewAsk → number ≡ turnNumber k
-new-number Nothing number w =
+pub new-number : (k : Kept) (number : ℕ) (a : Asked) → turnOf k number a ≡ NewAsk → number ≡ turnNumber k
+new-number Nothing number a =
     pick-elim (λ (t : Turn). t ≡ NewAsk → number ≡ 1) (eqb number 1) _ _
     (λ h e. eqb-true _ _ h)
     (λ h e. absurd (not-new refl e))
-new-number (Last k v sum) number w =
+new-number (Last k b sum) number a =
     pick-elim (λ (t : Turn). t ≡ NewAsk → number ≡ nextOf k) (eqb number k) _ _
-    (λ h. pick-elim (λ (t : Turn). t ≡ NewAsk → number ≡ nextOf k) (sameOf v w) _ _
+    (λ h. pick-elim (λ (t : Turn). t ≡ NewAsk → number ≡ nextOf k) (sameAsked b a) _ _
     (λ g e. absurd (not-new refl e))
     (λ g e. absurd (not-new refl e)))
     (λ h. pick-elim (λ (t : Turn). t ≡ NewAsk → number ≡ nextOf k) (eqb number (nextOf k)) _ _
@@ -65,7 +66,13 @@ new-number (Last k v sum) number w =
 -- a new ask, on any ledger, bears the number whose turn it is
 pub new-bears : (l : Ledger) (number sum : ℕ) (v : Window) → answered l (ask number v) .answer ≡ accepted (new sum)
     → number ≡ turnNumber (keptIn (l .state))
-new-bears l number sum v e = new-number (keptIn (l .state)) number v (is-new l number sum v e .turn)
+new-bears l number sum v e = new-number (keptIn (l .state)) number (window v) (is-new l number sum v e .turn)
+
+-- and so a new packet ask: the two kinds share one row of numbers
+pub new-packet-bears : (l : Ledger) (number total : ℕ) (i : Inputs) (buffer : List ℕ) → answered l (askPacket number i buffer) .answer ≡ accepted (new total)
+    → number ≡ turnNumber (keptIn (l .state))
+new-packet-bears l number total i buffer e =
+    new-number (keptIn (l .state)) number (Asked.packet i) (is-new-packet l number total i buffer e .turn)
 
 module _ (m w : List ℕ) (o : openMeans m w .answer ≡ accepted done) where
   -- on an opened memory calls may go on
@@ -78,7 +85,7 @@ module _ (m w : List ℕ) (o : openMeans m w .answer ≡ accepted done) where
 
   -- and nothing is kept
   opened-keeps : keptIn (opening m w .state) ≡ Nothing
-  opened-keeps = ap (λ (x : CallOutcome). keptIn (x .leaves .state)) (is-opened m w o .left)
+  opened-keeps = ap (λ (x : CallOutcome). keptIn (x .leaves .state)) (is-opened m w o .left) ∙ fresh-says w (length m) .1
 
   -- the first new ask after opening bears number 1, whatever calls lie before it
   pub first-number : (cs : List Call) → NoNew (opening m w) cs → (number sum : ℕ) (v : Window)

@@ -5,21 +5,35 @@ use mathlib.Core.Path.{_≡_, refl}
 use mathlib.Core.List.{List, [], _∷_, _++_}
 use Prim.Native.Nat.{ℕ, _+_}
 use Rattle.ground.specs.Choice.{pick}
-use Rattle.ground.specs.Paper.{Paper, accepted, refusal}
+use Rattle.ground.specs.Outcome.{outcomeOf}
+use Rattle.ground.specs.Paper.{Paper, accepted, refusal, mapped}
+use Rattle.item.specs.Inputs.{Inputs}
 use Rattle.pages.specs.declared.Window.{Window}
-use Rattle.histogram.specs.Meaning.{CallOutcome, Value, done, new, again, askMeans, flipMeans, incrementMeans, openMeans}
+use Rattle.histogram.specs.Meaning.{CallOutcome, Value, done, new, again, askMeans, flipMeans, incrementMeans, lent, openMeans}
+use Rattle.packet_ask.specs.Meaning.{PacketOutcome, PacketValue, newPacket, packetAgain, packetMeans}
 
 -- a call on an opened memory
 pub data Call : Type 0 where
   increment : ℕ → Call
   flip : Call
   ask : ℕ → Window → Call
+  askPacket : ℕ → Inputs → List ℕ → Call
+
+-- what a packet ask answers as an ask does: its total, new or again
+abbrev pub totalIn : PacketValue → Value
+totalIn (newPacket v) = new (v .total)
+totalIn (packetAgain v) = again (v .total)
+
+-- a packet ask without its buffer, which is the bench's own
+abbrev pub withoutBuffer : PacketOutcome → CallOutcome
+withoutBuffer o = outcomeOf (mapped totalIn (o .answer)) (lent (o .leaves .memory) (o .leaves .state))
 
 -- what a call means on a memory and a state
 abbrev pub callMeans : List ℕ → List ℕ → Call → CallOutcome
 callMeans m w (increment address) = incrementMeans m w address
 callMeans m w flip = flipMeans m w
 callMeans m w (ask number v) = askMeans m w number v
+callMeans m w (askPacket number i buffer) = withoutBuffer (packetMeans m w buffer number i)
 
 -- what an answered call adds to the accepted increments
 abbrev pub acceptedBy : Call → Paper Value → ℕ
@@ -27,8 +41,9 @@ acceptedBy (increment address) (accepted v) = 1
 acceptedBy (increment address) (refusal n carried) = 0
 acceptedBy flip p = 0
 acceptedBy (ask number w) p = 0
+acceptedBy (askPacket number i buffer) p = 0
 
--- what an answered call adds to the counts cleared and handed out: the sum of a new clearing ask
+-- what an answered call adds to the counts cleared and handed out: the sum of a new clearing ask, the total of a new packet ask
 abbrev pub clearedBy : Call → Paper Value → ℕ
 clearedBy (increment address) p = 0
 clearedBy flip p = 0
@@ -36,6 +51,10 @@ clearedBy (ask number w) (accepted done) = 0
 clearedBy (ask number w) (accepted (new sum)) = pick (w .clear) sum 0
 clearedBy (ask number w) (accepted (again sum)) = 0
 clearedBy (ask number w) (refusal n carried) = 0
+clearedBy (askPacket number i buffer) (accepted done) = 0
+clearedBy (askPacket number i buffer) (accepted (new total)) = total
+clearedBy (askPacket number i buffer) (accepted (again total)) = 0
+clearedBy (askPacket number i buffer) (refusal n carried) = 0
 
 -- whether an answer is that of a new ask
 abbrev pub isNew : Paper Value → Bool
@@ -43,11 +62,6 @@ isNew (accepted done) = false
 isNew (accepted (new sum)) = true
 isNew (accepted (again sum)) = false
 isNew (refusal n carried) = false
-
--- the counts that a memory holds, both pages together
-abbrev pub total : List ℕ → ℕ
-total [] = 0
-total (word ∷ words) = word + total words
 
 -- memory and state, with the counts cleared and the increments accepted since opening
 pub record Ledger : Type 0 where

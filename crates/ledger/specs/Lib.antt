@@ -1,0 +1,9 @@
+pub mod Runs
+pub mod Outcomes
+pub mod Pages
+pub mod Conservation
+pub mod Stays
+pub mod Feeding
+pub mod Repeat
+pub mod Numbers
+pub mod Cases

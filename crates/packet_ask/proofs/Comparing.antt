@@ -1,0 +1,91 @@
+-- Whether a packet's ask repeats the kept one, one law a return.
+-- Assumes nothing.
+use mathlib.Core.Path.{_≡_, refl, sym, ap, ap₂, _∙_}
+use mathlib.Core.Bool.{Bool, true, false, _&&_}
+use mathlib.Core.List.{List, [], _∷_}
+use Prim.Native.Nat.{ℕ, suc, _+_, _<_, _≤_, zero-le}
+use native.Mathlib.Numerals.{add-one}
+use native.Mathlib.Omega.{arith}
+use lib.Dec.{eqb}
+use lib.ListN.{drop, drop-of-length-le, getD, length, length-drop, length-take}
+use lib.Seq.{drop-cons, getD-drop, getD-take}
+use Rattle.state.specs.Laws.{turn-told}
+use Rattle.state.specs.Meaning.{turnBy, turnIn}
+use Rattle.state.specs.Turns.{sameAsked, sameItems}
+use Rattle.state.specs.declared.Turn.{Turn}
+use Rattle.state.specs.Words.{Asked, askedIn, inputsIn, itemCountIn, itemsAt, stateWords}
+
+-- the turn of an ask that was told whether it asks for the same as the kept one
+pub told-so : (l : List ℕ) (number : ℕ) (a : Asked) {same : Bool} → same ≡ sameAsked (askedIn l) a → {t : Turn} → t ≡ turnBy l number same
+    → t ≡ turnIn l number a
+told-so l number a e f = f ∙ ap (turnBy l number) e ∙ turn-told l number a
+
+-- tables of different lengths are different
+pub not-as-many : (x y : List ℕ) → (length x ≡ length y → ⊥) → false ≡ sameItems x y
+not-as-many [] [] d = absurd (d refl)
+not-as-many [] (b ∷ y) d = refl
+not-as-many (a ∷ x) [] d = refl
+not-as-many (a ∷ x) (b ∷ y) d = later (eqb a b) (not-as-many x y (λ e. d (ap suc e)))
+  where
+    later : (t : Bool) {s : Bool} → false ≡ s → false ≡ t && s
+    later true e = e
+    later false e = refl
+
+module _ (l : List ℕ) (h : stateWords ≤ length l) where
+  -- the kept table has as many items as are said
+  pub table-long : length (inputsIn l .items) ≡ itemCountIn l
+  table-long = length-take (itemCountIn l) (drop itemsAt l) ∙ omega (arith, length-drop itemsAt l)
+
+  -- another number of items
+  pub other-count : (items : List ℕ) {count : ℕ} → count ≡ itemCountIn l → (count ≡ length items → ⊥) → false ≡ sameItems (inputsIn l .items) items
+  other-count items e d = not-as-many (inputsIn l .items) items (λ f. d (e ∙ sym table-long ∙ f))
+
+-- the items before `i` are those of the kept table, which has as many, and the rest decides
+pub record Alike (l items : List ℕ) (count i : ℕ) : Type 0 where
+  pub words : stateWords ≤ length l
+  pub counted : count ≡ itemCountIn l
+  pub as-many : count ≡ length items
+  pub within : i ≤ count
+  pub rest : sameItems (inputsIn l .items) items ≡ sameItems (drop i (inputsIn l .items)) (drop i items)
+
+pub alike-none : (l items : List ℕ) {count : ℕ} → stateWords ≤ length l → count ≡ itemCountIn l → count ≡ length items → Alike l items count 0
+alike-none l items h e f = record { words = h; counted = e; as-many = f; within = zero-le; rest = refl }
+
+module _ {l items : List ℕ} {count i : ℕ} (a : Alike l items count i) where
+  -- all are the same
+  pub alike-all : count ≤ i → true ≡ sameItems (inputsIn l .items) items
+  alike-all h =
+      let kept = inputsIn l .items in
+      let long : length kept ≡ itemCountIn l = table-long l (a .words) in
+      sym (a .rest ∙ ap₂ sameItems (drop-of-length-le kept {i = i} (omega (arith, a .counted))) (drop-of-length-le items {i = i} (omega (arith, a .as-many))))
+
+  module _ (h : i < count) where
+    -- what comes next
+    next-is : sameItems (inputsIn l .items) items
+        ≡ eqb (getD l (itemsAt + i) 0) (getD items i 0) && sameItems (drop (suc i) (inputsIn l .items)) (drop (suc i) items)
+    next-is =
+        let kept = inputsIn l .items in
+        let long : length kept ≡ itemCountIn l = table-long l (a .words) in
+        let word : getD kept i 0 ≡ getD l (itemsAt + i) 0
+        = getD-take (itemCountIn l) (drop itemsAt l) i 0 (omega (arith, a .counted)) ∙ getD-drop itemsAt l i 0 in
+        a .rest
+        ∙ ap₂ sameItems (drop-cons kept i 0 (omega (arith, a .counted))) (drop-cons items i 0 (omega (arith, a .as-many)))
+        ∙ ap (λ (x : ℕ). eqb x (getD items i 0) && sameItems (drop (suc i) kept) (drop (suc i) items)) word
+
+    -- one item more is the same
+    pub alike-more : eqb (getD l (itemsAt + i) 0) (getD items i 0) ≡ true → Alike l items count (i + 1)
+    alike-more e =
+        record {
+          words = a .words;
+          counted = a .counted;
+          as-many = a .as-many;
+          within = omega arith;
+          rest =
+              next-is
+              ∙ ap (λ (b : Bool). b && sameItems (drop (suc i) (inputsIn l .items)) (drop (suc i) items)) e
+              ∙ ap (λ (n : ℕ). sameItems (drop n (inputsIn l .items)) (drop n items)) (sym (add-one i));
+        }
+
+    -- the next is another
+    pub alike-not : eqb (getD l (itemsAt + i) 0) (getD items i 0) ≡ false → false ≡ sameItems (inputsIn l .items) items
+    alike-not e = sym (next-is ∙ ap (λ (b : Bool). b && sameItems (drop (suc i) (inputsIn l .items)) (drop (suc i) items)) e)
