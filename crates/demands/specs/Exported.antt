@@ -4,3 +4,4 @@
 -- Assumes nothing.
 
 pub use Rattle.plavotesk.specs.Session.{Made, Meets, Session, acceptedIn, clearedIn, newIn, NoneNew, session-conserves, Repeated, session-repeats}
+pub use Rattle.plavotesk.specs.Session.{PacketRepeated, session-packet-repeats}

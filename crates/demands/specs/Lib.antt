@@ -6,4 +6,5 @@ pub mod Exported
 pub mod OneOutcome
 pub mod Refusals
 pub mod OneMeaning
+pub mod Packets
 pub mod Requests

@@ -14,6 +14,8 @@ pub use Rattle.message.specs.OneOutcome.{read-one as message-read-one, write-on
 pub use Rattle.message.specs.OneOutcome.{written-number-one as message-written-number-one}
 -- packed codes: pack; shape; unpack, and a reader's next_code, read_at and read_moved; magnitude; sign; the small questions that both ask
 pub use Rattle.code.specs.OneOutcome.{pack-one, shape-one, unpack-one, magnitude-one, sign-one, packed-number-one, unpacked-number-one}
+-- so many bits of a number
+pub use Rattle.pack.specs.OneOutcome.{field-one}
 pub use Rattle.code.specs.OneOutcome.{drop-known-one, in-rule-one, wide-one, end-of-one, power-one, bit-of-one, refusal-number-one, reason-one}
 -- the reader: reader_at and moved_to
 pub use Rattle.reader.specs.OneOutcome.{reader-one}
@@ -26,11 +28,16 @@ pub use Rattle.cadence.specs.OneOutcome.{seconds-one, beginning-one, ending-one
 -- readings and rates
 pub use Rattle.rate.specs.OneOutcome.{reading-one, rate-one, reading-number-one, rate-number-one}
 -- two pages of counters
-pub use Rattle.pages.specs.OneOutcome.{sized-one, clear-one, count-one, take-one}
+pub use Rattle.pages.specs.OneOutcome.{sized-one, clear-one, count-one, check-one, take-one, go-over-one}
+-- items, and the packet built of them
+pub use Rattle.item.specs.OneOutcome.{window-of-one, plain-one, adds-one, sends-one, send-one}
+pub use Rattle.data_packet.specs.OneOutcome.{build-one}
 -- histogram memory
-pub use Rattle.state.specs.OneOutcome.{fitting-one, turn-one, next-one, next-number-one}
+pub use Rattle.state.specs.OneOutcome.{fitting-one, turn-one, turn-by-one, next-one, next-number-one}
 pub use Rattle.histogram.specs.OneOutcome.{open-one, increment-one, increments-one, flip-one, ask-one}
 pub use Rattle.histogram.specs.OneOutcome.{open-number-one, increment-number-one, increments-number-one, flip-number-one, ask-number-one}
+-- packet asks
+pub use Rattle.packet_ask.specs.OneOutcome.{ask-packet-one, packet-number-one}
 -- the code program's lines
 pub use Rattle.lines.specs.OneOutcome.{fresh-one, with-byte-one, header-one as lines-header-one, put-answer-one, run-one}
 -- what the code program prints with
@@ -46,4 +53,4 @@ pub use Rattle.plavotesk.specs.OneOutcome.{plv-log8-code-one, plv-log8-counts-o
 pub use Rattle.plavotesk.specs.OneOutcome.{plv-level-seconds-one, plv-second-beginning-one, plv-second-ending-one}
 -- the C interface: histogram memory
 pub use Rattle.plavotesk.specs.OneOutcome.{plv-histogram-open-one, plv-histogram-increment-one, plv-histogram-increments-one, plv-histogram-next-one}
-pub use Rattle.plavotesk.specs.OneOutcome.{plv-histogram-flip-one, plv-histogram-ask-one, plv-version-one}
+pub use Rattle.plavotesk.specs.OneOutcome.{plv-histogram-flip-one, plv-histogram-ask-one, plv-histogram-packet-one, plv-version-one}

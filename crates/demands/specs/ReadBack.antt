@@ -34,8 +34,8 @@ pub record PacketAgain (apid : ℕ) (payload after : List ℕ) : Type 0 where
   pub handed : (capture r : RefT (List ℕ)) → capture .now ≡ after → PayloadPromise capture 0 r → r .now ≡ payload
 
 -- a packet at the front of a capture is found at 0 with nothing skipped, and has its APID, its length and its data
-packet-again : (apid : ℕ) (payload rest capture : List ℕ) → capture ≡ written apid payload rest → length payload ≤ 8187 → apid < 2 ^ 16 → length capture ≤ 65536
-    → PacketAgain apid payload capture
+pub packet-again : (apid : ℕ) (payload rest capture : List ℕ) → capture ≡ written apid payload rest → length payload ≤ 8187 → apid < 2 ^ 16
+    → length capture ≤ 65536 → PacketAgain apid payload capture
 packet-again apid payload rest capture is small a fits =
     let short : length (written apid payload rest) ≤ 65536 = subst (λ (l : List ℕ). length l ≤ 65536) is fits in
     record {

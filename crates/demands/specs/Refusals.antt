@@ -23,26 +23,40 @@ use Rattle.code.specs.Answers.{packedPaper}
 use Rattle.code.specs.Meaning.{UnpackValues, packMeans, unpackMeans}
 use Rattle.code.specs.Promise.{PackPromise}
 use Rattle.code.specs.Theorems.{pack-stays}
+use Rattle.pack.specs.OneOutcome.{field-stays}
+use Rattle.pack.specs.Promise.{FieldPromise}
+use Rattle.item.specs.declared.Sent.{Sent}
+use Rattle.item.specs.Answers.{sentPaper}
+use Rattle.item.specs.Inputs.{Inputs}
+use Rattle.item.specs.OneOutcome.{send-stays}
+use Rattle.item.specs.Promise.{SendPromise}
+use Rattle.data_packet.specs.Meaning.{buildMeans, memoryAndBuffer}
+use Rattle.data_packet.specs.Outcomes.{build-stays}
+use Rattle.packet_ask.specs.Meaning.{PacketValue, packetLent, packetMeans}
+use Rattle.packet_ask.specs.Outcomes.{packet-stays}
 use Rattle.rate.specs.Meaning.{RateValues, ReadingValues, rateMeans, readingMeans}
 use Rattle.format.specs.Meaning.{floatValue, Takes, int24Means, Log8Takes}
 use Rattle.cadence.specs.Meaning.{Begins, Ends, secondsMeans}
 use Rattle.pages.specs.declared.CountAnswer.{CountAnswer}
 use Rattle.pages.specs.declared.Taken as pages
+use Rattle.pages.specs.declared.Pass.{Pass}
+use Rattle.pages.specs.declared.Passed.{Passed}
 use Rattle.pages.specs.declared.Window.{Window}
-use Rattle.pages.specs.Answers.{countPaper, takenPaper}
-use Rattle.pages.specs.Outcomes.{count-stays, take-stays}
-use Rattle.pages.specs.Promise.{CountPromise, TakePromise}
+use Rattle.pages.specs.Answers.{countPaper, passedPaper, takenPaper}
+use Rattle.pages.specs.Outcomes.{count-stays, pass-stays, take-stays}
+use Rattle.pages.specs.Promise.{CountPromise, PassPromise, TakePromise}
 use Rattle.state.specs.Meaning.{nextMeans}
-use Rattle.histogram.specs.Feeding.{increments-stays}
 use Rattle.histogram.specs.Meaning.{CallOutcome, Fed, Lent, Value, incrementsMeans, lent, openMeans}
-use Rattle.histogram.specs.Outcomes.{call-stays, open-stays}
-use Rattle.histogram.specs.Runs.{Call, increment, flip, ask, callMeans}
-use Rattle.plavotesk.specs.Meaning.{AskValues, Edges, Quotients, edgesOf, quotientsOf, toldAs, toldAsk, toldFound, toldWith}
+use Rattle.histogram.specs.Outcomes.{open-stays}
+use Rattle.ledger.specs.Feeding.{increments-stays}
+use Rattle.ledger.specs.Outcomes.{call-stays}
+use Rattle.ledger.specs.Runs.{Call, increment, flip, ask, callMeans}
+use Rattle.plavotesk.specs.Meaning.{AskValues, Edges, PacketPlaces, Quotients, edgesOf, quotientsOf, toldAs, toldAsk, toldFound, toldPacket, toldWith}
 use Rattle.plavotesk.specs.Promise.{Sentence, PacketFindPromise, PacketHeaderPromise, PacketWritePromise, MessageReadPromise, MessageWritePromise}
 use Rattle.plavotesk.specs.Promise.{CodePackPromise, CodeUnpackPromise, ReadingPromise, RatePromise, Float16CodePromise, Float8CodePromise, Int24Promise}
 use Rattle.plavotesk.specs.Promise.{Log8CodePromise, LevelSecondsPromise, SecondBeginningPromise, SecondEndingPromise, Left, leftBy}
 use Rattle.plavotesk.specs.Promise.{HistogramOpenPromise, HistogramIncrementPromise, HistogramFlipPromise, HistogramAskPromise}
-use Rattle.plavotesk.specs.Promise.{HistogramIncrementsPromise, HistogramNextPromise}
+use Rattle.plavotesk.specs.Promise.{HistogramIncrementsPromise, HistogramNextPromise, HistogramPacketPromise, PacketLeft, packetLeftBy}
 
 -- ---- the crates' calls
 
@@ -61,6 +75,16 @@ pub pack-refused : (buffer : List ℕ) (at : ℕ) (v : ℤ) (d : ℕ) (r : Packe
     → Refuses (numberOf (packedPaper r)) → after ≡ buffer
 pack-refused buffer at v d r after p = refused-left (p .outcome) (pack-stays buffer at v d)
 
+-- so many bits of a number put at a position
+pub field-refused : (buffer : List ℕ) (at x w : ℕ) (r : Packed) (after : List ℕ) → FieldPromise buffer at x w r after
+    → Refuses (numberOf (packedPaper r)) → after ≡ buffer
+field-refused buffer at x w r after p = refused-left (p .outcome) (field-stays buffer at x w)
+
+-- sending an item's result
+pub send-refused : (buffer : List ℕ) (at x result : ℕ) (s : Sent) (after : List ℕ) → SendPromise buffer at x result s after
+    → Refuses (numberOf (sentPaper s)) → after ≡ buffer
+send-refused buffer at x result s after p = refused-left (p .outcome) (send-stays buffer at x result)
+
 -- counting on a page
 pub count-refused : (m : List ℕ) (page : Bool) (address : ℕ) (r : CountAnswer) (after : List ℕ) → CountPromise m page address r after
     → Refuses (numberOf (countPaper r)) → after ≡ m
@@ -70,6 +94,19 @@ count-refused m page address r after p = refused-left (p .outcome) (count-stays 
 pub take-refused : (m : List ℕ) (page : Bool) (w : Window) (r : pages.Taken) (after : List ℕ) → TakePromise m page w r after
     → Refuses (numberOf (takenPaper r)) → after ≡ m
 take-refused m page w r after p = refused-left (p .outcome) (take-stays m page w)
+
+-- going over a window of a page
+pub go-over-refused : (m : List ℕ) (page : Bool) (rule : Pass) (w : Window) (r : Passed) (after : List ℕ) → PassPromise m page rule w r after
+    → Refuses (numberOf (passedPaper r)) → after ≡ m
+go-over-refused m page rule w r after p = refused-left (p .outcome) (pass-stays m page rule w)
+
+-- building a packet: memory and buffer
+pub build-refused : (m : List ℕ) (page : Bool) (i : Inputs) (buffer : List ℕ) → Stays (memoryAndBuffer m buffer) (buildMeans m page i buffer)
+build-refused = build-stays
+
+-- a packet ask: memory, state and buffer
+pub packet-refused : (m w buffer : List ℕ) (number : ℕ) (i : Inputs) → Stays (packetLent m w buffer) (packetMeans m w buffer number i)
+packet-refused = packet-stays
 
 -- opening a histogram's memory; an increment, a flip, an ask: memory and state
 pub open-refused : (m w : List ℕ) → Stays (lent m w) (openMeans m w)
@@ -229,3 +266,29 @@ plv-histogram-ask-refused m w n v held o values e f =
     places : (p : Paper Value) → Refuses (numberOf p) → toldAsk p held ≡ held
     places (accepted x) g = absurd (g refl)
     places (refusal k carried) g = refl
+
+-- what a packet ask is lent, as it was: memory, state, buffer and the lent places
+pub record PacketStays (m w buffer : List ℕ) (held : PacketPlaces) (o : PacketLeft) (values : PacketPlaces) : Type 0 where
+  pub memory : o .memory ≡ m
+  pub state : o .state ≡ w
+  pub bytes : o .buffer ≡ buffer
+  pub places : values ≡ held
+
+-- a packet ask
+pub plv-histogram-packet-refused : (m w buffer : List ℕ) (n : ℕ) (i : Inputs) (held : PacketPlaces) (o : PacketLeft) (values : PacketPlaces)
+    → HistogramPacketPromise m w buffer n i held (o, values) → Refuses (o .number) → PacketStays m w buffer held o values
+plv-histogram-packet-refused m w buffer n i held o values e f =
+    let x = packetMeans m w buffer n i in
+    let left : o ≡ packetLeftBy x = ap (λ (y : PacketLeft × PacketPlaces). y .0) e in
+    let g : Refuses (numberOf (x .answer)) = λ z. f (ap (λ (y : PacketLeft). y .number) left ∙ z) in
+    let s : x .leaves ≡ packetLent m w buffer = packet-stays m w buffer n i g in
+    record {
+      memory = ap (λ (y : PacketLeft). y .memory) left ∙ ap (λ l. l .memory) s;
+      state = ap (λ (y : PacketLeft). y .state) left ∙ ap (λ l. l .state) s;
+      bytes = ap (λ (y : PacketLeft). y .buffer) left ∙ ap (λ l. l .buffer) s;
+      places = ap (λ (y : PacketLeft × PacketPlaces). y .1) e ∙ kept (x .answer) g;
+    }
+  where
+    kept : (p : Paper PacketValue) → Refuses (numberOf p) → toldPacket p held ≡ held
+    kept (accepted x) g = absurd (g refl)
+    kept (refusal k carried) g = refl

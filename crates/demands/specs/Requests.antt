@@ -15,3 +15,11 @@ pub use Rattle.code.specs.OnFile.{shape-stands, onward-stands, pack-stands}
 pub use Rattle.code.specs.OnFile.{new-codes, new-too-long, written-too-long, new-was-refused}
 -- "11 now comes at the 13th one, or after 12 ones, a zero and a one"
 pub use Rattle.code.specs.OnFile.{thirteenth-one, one-after-twelve, twelve-and-nothing}
+-- 2026-07, "Build the board's data packet, APID 0x03 and a low byte from the caller": it stands at place 0 of the buffer, with its items' data
+pub use Rattle.demands.specs.Packets.{PacketStands, packet-stands}
+-- "One ask number covers the whole packet .. demand 3 counts that total"; "A repeat with all of them the same .."
+pub use Rattle.demands.specs.Ledger.{nothing-lost, packet-nothing-twice}
+-- "Items run in order": whatever they are, the other page's counters stay, and what they leave and clear is what was there
+pub use Rattle.data_packet.specs.Runs.{run-conserves, run-leaves}
+-- the two kinds of ask share one row of numbers
+pub use Rattle.ledger.specs.Numbers.{new-bears, new-packet-bears}

@@ -1,4 +1,4 @@
--- What a histogram call leaves, from what the library's call promises: one law for all of them, and one more for an ask.
+-- What a histogram call leaves, from what the library's call promises: one law for all of them, and one more for an ask of either kind.
 -- Assumes nothing.
 use mathlib.Core.Path.{_≡_, ap, ap₂, _∙_}
 use mathlib.Core.List.{List}
@@ -7,8 +7,10 @@ use Rattle.ground.specs.Paper.{Paper, numberOf}
 use Rattle.pages.specs.declared.Window.{Window}
 use Rattle.ground.specs.Outcome.{outcomeOf}
 use Rattle.histogram.specs.Meaning.{CallOutcome, Value, askMeans, lent}
-use Rattle.plavotesk.specs.Meaning.{AskValues, toldAsk}
-use Rattle.plavotesk.specs.Promise.{HistogramAskPromise, Left, leftBy}
+use Rattle.item.specs.Inputs.{Inputs}
+use Rattle.packet_ask.specs.Meaning.{PacketOutcome, PacketValue, packetLent, packetMeans}
+use Rattle.plavotesk.specs.Meaning.{AskValues, PacketPlaces, toldAsk, toldPacket}
+use Rattle.plavotesk.specs.Promise.{HistogramAskPromise, HistogramPacketPromise, Left, leftBy, packetLeftBy}
 use Rattle.plavotesk.proofs.Telling.{with-memory}
 
 -- the number of what the library's call answers, with the memory and the state that it leaves
@@ -23,3 +25,16 @@ pub leaves-asked : (m w : List ℕ) (n : ℕ) {u v : Window} → u ≡ v → {p 
 leaves-asked m w n {u} {v} e {p} {m′} {w′} q held s g k =
     let asked : outcomeOf p (lent m′ w′) ≡ askMeans m w n v = q ∙ ap (λ (x : Window). askMeans m w n x) e in
     with-memory (leaves asked k) (ap₂ (λ (x y : ℕ). record { sum = x; again = y }) s g ∙ ap (λ (o : CallOutcome). toldAsk (o .answer) held) asked)
+
+-- a packet ask, whose lent places were written by its answer
+pub leaves-packet : (m w b : List ℕ) (n : ℕ) (i : Inputs) {p : Paper PacketValue} {m′ w′ b′ : List ℕ}
+    → outcomeOf p (packetLent m′ w′ b′) ≡ packetMeans m w b n i → (held : PacketPlaces) {written total again r : ℕ}
+    → written ≡ toldPacket p held .written → total ≡ toldPacket p held .total → again ≡ toldPacket p held .again → r ≡ numberOf p
+    → HistogramPacketPromise m w b n i held
+    (record { number = r; memory = m′; state = w′; buffer = b′ }, record { written = written; total = total; again = again })
+leaves-packet m w b n i {p} {m′} {w′} {b′} q held {written} {total} {again} e f g k =
+    with-memory
+    (ap (λ (x : ℕ). record { number = x; memory = m′; state = w′; buffer = b′ }) k ∙ ap packetLeftBy q)
+    (ap₂ (λ (x y : ℕ). record { written = x; total = y; again = again }) e f
+    ∙ ap (λ (x : ℕ). record { written = toldPacket p held .written; total = toldPacket p held .total; again = x }) g
+    ∙ ap (λ (o : PacketOutcome). toldPacket (o .answer) held) q)

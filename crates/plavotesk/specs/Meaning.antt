@@ -13,13 +13,14 @@ use Rattle.packet.specs.Meaning.{FoundValues, payloadMeans, payloadStart}
 use Rattle.format.specs.Meaning.{Giving, between, noCount}
 use Rattle.pages.specs.declared.Window.{Window}
 use Rattle.histogram.specs.Meaning.{Value, done, new, again}
+use Rattle.packet_ask.specs.Meaning.{PacketValue, newPacket, packetAgain}
 use Rattle.rate.specs.declared.record.Rate.{Rate}
 use Rattle.rate.specs.declared.record.Reading.{Reading}
 use Rattle.rate.specs.declared.record.Reading.the-variants.{Exact, Between}
 
 -- the version of this interface, PLV_VERSION of the header
 abbrev pub interface : ℕ
-interface = 2
+interface = 3
 
 -- "Each returns its number, and nothing else unless said above": 0 and what the values say where accepted; the number, and what the places held, where refused
 unfoldable pub toldAs : {A X : Type 0} → (A → X) → Paper A → X → ℕ × X
@@ -92,6 +93,18 @@ toldAsk (accepted done) held = held
 toldAsk (accepted (new sum)) held = record { sum = sum; again = 0 }
 toldAsk (accepted (again sum)) held = record { sum = sum; again = 1 }
 toldAsk (refusal n carried) held = held
+
+-- what a packet ask's lent places take: the bytes written, the total, and 1 where it was answered again
+pub record PacketPlaces : Type 0 where
+  pub written : ℕ
+  pub total : ℕ
+  pub again : ℕ
+
+-- what they hold after a packet ask: written where it is accepted, what they held where it is refused
+abbrev pub toldPacket : Paper PacketValue → PacketPlaces → PacketPlaces
+toldPacket (accepted (newPacket v)) held = record { written = v .written; total = v .total; again = 0 }
+toldPacket (accepted (packetAgain v)) held = record { written = v .written; total = v .total; again = 1 }
+toldPacket (refusal n carried) held = held
 
 -- a window by its numbers: clear 0 keeps, any other number clears
 abbrev pub windowOf : ℕ → ℕ → ℕ → ℕ → ℕ → Window

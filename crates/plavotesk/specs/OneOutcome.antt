@@ -12,14 +12,15 @@ use Rattle.format.specs.Meaning.{floatValue}
 use Rattle.format.specs.Codes.{takes-one}
 use Rattle.format.specs.Logarithms.{log8-one, given-one}
 use Rattle.cadence.specs.Sentence.{level-one}
+use Rattle.item.specs.Inputs.{Inputs}
 use Rattle.pages.specs.declared.Window.{Window}
-use Rattle.plavotesk.specs.Meaning.{told, interface, AskValues, Edges, Quotients, countEnds}
+use Rattle.plavotesk.specs.Meaning.{told, interface, AskValues, Edges, PacketPlaces, Quotients, countEnds}
 use Rattle.plavotesk.specs.Promise.{PacketFindPromise, PacketHeaderPromise, PacketPayloadPromise, PacketWritePromise}
 use Rattle.plavotesk.specs.Promise.{MessageReadPromise, MessageWritePromise, CodePackPromise, CodeUnpackPromise, ReadingPromise, RatePromise}
 use Rattle.plavotesk.specs.Promise.{Sentence, Float16CodePromise, Float8CodePromise, Int24Promise, Log8CodePromise, Log8CountsPromise}
 use Rattle.plavotesk.specs.Promise.{LevelSecondsPromise, SecondBeginningPromise, SecondEndingPromise}
 use Rattle.plavotesk.specs.Promise.{HistogramOpenPromise, HistogramIncrementPromise, HistogramFlipPromise, HistogramAskPromise}
-use Rattle.plavotesk.specs.Promise.{HistogramIncrementsPromise, HistogramNextPromise}
+use Rattle.plavotesk.specs.Promise.{HistogramIncrementsPromise, HistogramNextPromise, HistogramPacketPromise}
 use Rattle.histogram.specs.Meaning.{Fed}
 
 -- a promise that one outcome meets
@@ -113,6 +114,10 @@ plv-histogram-flip-one memory state o p = one-value
 pub plv-histogram-ask-one : (memory state : List ℕ) (number : ℕ) (window : Window) (held : AskValues)
     → One (HistogramAskPromise memory state number window held)
 plv-histogram-ask-one memory state number window held o p = one-value
+
+pub plv-histogram-packet-one : (memory state buffer : List ℕ) (number : ℕ) (i : Inputs) (held : PacketPlaces)
+    → One (HistogramPacketPromise memory state buffer number i held)
+plv-histogram-packet-one memory state buffer number i held o p = one-value
 
 -- the version
 pub plv-version-one : {m n : ℕ} → m ≡ interface → n ≡ interface → m ≡ n

@@ -12,11 +12,13 @@ use Rattle.code.specs.Meaning.{UnpackValues, packMeans, unpackMeans}
 use Rattle.rate.specs.Meaning.{ReadingValues, RateValues, readingMeans, rateMeans}
 use Rattle.format.specs.Meaning.{floatValue, Takes, int24Means, Giving, Log8Takes, Log8Given}
 use Rattle.cadence.specs.Meaning.{Begins, Ends, secondsMeans}
+use Rattle.item.specs.Inputs.{Inputs}
 use Rattle.pages.specs.declared.Window.{Window}
 use Rattle.state.specs.Meaning.{nextMeans}
 use Rattle.histogram.specs.Meaning.{CallOutcome, Fed, Lent, askMeans, flipMeans, incrementMeans, incrementsMeans, openMeans}
 use Rattle.plavotesk.specs.Meaning.{toldAs, told, toldWith, toldFound, partOf, Edges, edgesOf, AskValues, toldAsk, Quotients, quotientsOf}
-use Rattle.plavotesk.specs.Meaning.{CountEnds, countEnds}
+use Rattle.packet_ask.specs.Meaning.{PacketOutcome, packetMeans}
+use Rattle.plavotesk.specs.Meaning.{CountEnds, countEnds, PacketPlaces, toldPacket}
 
 -- finding: the first packet's place, and the bytes skipped before it, with 20 as well
 abbrev pub PacketFindPromise : List ℕ → FoundValues → ℕ × FoundValues → Type 0
@@ -134,3 +136,19 @@ HistogramFlipPromise memory state o = o ≡ leftBy (flipMeans memory state)
 abbrev pub HistogramAskPromise : List ℕ → List ℕ → ℕ → Window → AskValues → Left × AskValues → Type 0
 HistogramAskPromise memory state number window held o =
     o ≡ (leftBy (askMeans memory state number window), toldAsk (askMeans memory state number window .answer) held)
+
+-- what a packet ask leaves: its number, the memory, the state's words, the buffer
+pub record PacketLeft : Type 0 where
+  pub number : ℕ
+  pub memory : List ℕ
+  pub state : List ℕ
+  pub buffer : List ℕ
+
+-- the same of what the library's call means
+abbrev pub packetLeftBy : PacketOutcome → PacketLeft
+packetLeftBy o = record { number = numberOf (o .answer); memory = o .leaves .memory; state = o .leaves .state; buffer = o .leaves .buffer }
+
+-- a packet ask: the bytes written, the total, and whether it was answered again; memory, state and buffer
+abbrev pub HistogramPacketPromise : List ℕ → List ℕ → List ℕ → ℕ → Inputs → PacketPlaces → PacketLeft × PacketPlaces → Type 0
+HistogramPacketPromise memory state buffer number i held o =
+    o ≡ (packetLeftBy (packetMeans memory state buffer number i), toldPacket (packetMeans memory state buffer number i .answer) held)

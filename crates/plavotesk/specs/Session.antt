@@ -3,33 +3,42 @@
 use mathlib.Core.Bool.{Bool, true, false, _&&_}
 use mathlib.Core.Path.{_≡_, refl, sym, ap, ap₂, _∙_, subst}
 use mathlib.Core.List.{List, [], _∷_, _++_, map}
-use Prim.Native.Nat.{ℕ, _+_, _<_}
+use Prim.Native.Nat.{ℕ, _+_, _≤_, _<_}
 use native.Mathlib.Nat.{add-zero, zero-add}
 use native.Mathlib.Omega.{arith}
 use borrow.Author.Tests.{ne-eqb}
 use lib.Dec.{eqb}
-use lib.ListN.{take}
+use lib.ListN.{length, take}
 use Rattle.ground.specs.Choice.{pick}
 use Rattle.ground.specs.Outcome.{accept, refuse}
-use Rattle.ground.specs.Paper.{Paper, accepted, refusal, numberOf}
+use Rattle.ground.specs.Paper.{Paper, accepted, refusal, mapped, numberOf}
+use Rattle.ground.specs.Putting.{put}
+use Rattle.data_packet.specs.Meaning.{PacketValues}
+use Rattle.item.specs.Inputs.{Inputs}
+use Rattle.packet_ask.specs.Meaning.{PacketOutcome, PacketValue, newPacket, packetAgain, packetLent, packetMeans}
+use Rattle.packet_ask.specs.Outcomes.{packet-elim}
+use Rattle.pages.specs.Totals.{total}
 use Rattle.pages.specs.declared.Window.{Window}
 use Rattle.state.specs.Words.{pageIn}
-use Rattle.histogram.specs.Conservation.{Balanced, opened-balanced, run-balanced}
-use Rattle.histogram.specs.Feeding.{FedRun, feed-run, increments-elim, run-old}
 use Rattle.histogram.specs.Meaning.{CallOutcome, Fed, Lent, Value, again, askMeans, done, feedOf, feeding, lent, new, openMeans}
-use Rattle.histogram.specs.Outcomes.{call-elim, open-elim}
-use Rattle.histogram.specs.Repeat.{repeat}
-use Rattle.histogram.specs.Runs.{Call, increment, flip, ask, Ledger, NoNew, acceptedBy, callMeans, clearedBy, isNew, opening, run, run-append, step, total}
-use Rattle.plavotesk.specs.Meaning.{AskValues, told, toldAs, toldAsk, toldWith}
+use Rattle.histogram.specs.Outcomes.{increments-elim, open-elim}
+use Rattle.ledger.specs.Conservation.{Balanced, opened-balanced, run-balanced}
+use Rattle.ledger.specs.Feeding.{FedRun, feed-run, run-old}
+use Rattle.ledger.specs.Outcomes.{call-elim}
+use Rattle.ledger.specs.Repeat.{packet-repeat, repeat}
+use Rattle.ledger.specs.Runs.{Call, increment, flip, ask, askPacket, Ledger, NoNew, acceptedBy, callMeans, clearedBy, isNew, opening}
+use Rattle.ledger.specs.Runs.{run, run-append, step, totalIn}
+use Rattle.plavotesk.specs.Meaning.{AskValues, PacketPlaces, told, toldAs, toldAsk, toldPacket, toldWith}
 use Rattle.plavotesk.specs.Promise.{HistogramAskPromise, HistogramFlipPromise, HistogramIncrementPromise, HistogramIncrementsPromise}
-use Rattle.plavotesk.specs.Promise.{HistogramOpenPromise, Left, leftBy}
+use Rattle.plavotesk.specs.Promise.{HistogramOpenPromise, HistogramPacketPromise, Left, PacketLeft, leftBy, packetLeftBy}
 
--- a call that a bench made, with what it left; an ask and a run of increments also with what their lent places held, and hold
+-- a call that a bench made, with what it left; asks of both kinds and a run of increments also with what their lent places held, and hold
 pub data Made : Type 0 where
   incremented : ℕ → Left → Made
   fed : List ℕ → Fed → (ℕ × Fed) × Lent → Made
   flipped : Left → Made
   asked : ℕ → Window → AskValues → Left → AskValues → Made
+  packeted : ℕ → Inputs → List ℕ → PacketPlaces → PacketLeft → PacketPlaces → Made
 
 -- what it left: its number, memory and state
 abbrev pub leftOf : Made → Left
@@ -37,6 +46,7 @@ leftOf (incremented address o) = o
 leftOf (fed addresses held o) = record { number = o .0 .0; memory = o .1 .memory; state = o .1 .state }
 leftOf (flipped o) = o
 leftOf (asked number v held o values) = o
+leftOf (packeted number i buffer held o values) = record { number = o .number; memory = o .memory; state = o .state }
 
 -- made on memory and state, it kept its promise
 abbrev pub Meets : List ℕ → List ℕ → Made → Type 0
@@ -44,6 +54,7 @@ Meets m w (incremented address o) = HistogramIncrementPromise m w address o
 Meets m w (fed addresses held o) = HistogramIncrementsPromise m w addresses held o
 Meets m w (flipped o) = HistogramFlipPromise m w o
 Meets m w (asked number v held o values) = HistogramAskPromise m w number v held (o, values)
+Meets m w (packeted number i buffer held o values) = HistogramPacketPromise m w buffer number i held (o, values)
 
 -- calls one after the other, each on what the one before it left
 abbrev pub Session : Left → List Made → Type 0
@@ -61,6 +72,7 @@ acceptedIn (incremented address o) = pick (eqb (o .number) 0) 1 0
 acceptedIn (fed addresses held o) = pick (eqb (o .0 .0) 0) (o .0 .1 .count) 0
 acceptedIn (flipped o) = 0
 acceptedIn (asked number v held o values) = 0
+acceptedIn (packeted number i buffer held o values) = 0
 
 -- an ask that answered 0, and not again, was new
 abbrev pub newIn : Made → Bool
@@ -68,13 +80,15 @@ newIn (incremented address o) = false
 newIn (fed addresses held o) = false
 newIn (flipped o) = false
 newIn (asked number v held o values) = eqb (o .number) 0 && eqb (values .again) 0
+newIn (packeted number i buffer held o values) = eqb (o .number) 0 && eqb (values .again) 0
 
--- what a call cleared and handed out: the sum of a new clearing ask
+-- what a call cleared and handed out: the sum of a new clearing ask, the total of a new packet ask
 abbrev pub clearedIn : Made → ℕ
 clearedIn (incremented address o) = 0
 clearedIn (fed addresses held o) = 0
 clearedIn (flipped o) = 0
 clearedIn (asked number v held o values) = pick (eqb (o .number) 0 && eqb (values .again) 0) (pick (v .clear) (values .sum) 0) 0
+clearedIn (packeted number i buffer held o values) = pick (eqb (o .number) 0 && eqb (values .again) 0) (values .total) 0
 
 -- a number summed over the calls of a session
 abbrev pub sumOver : (Made → ℕ) → List Made → ℕ
@@ -92,6 +106,7 @@ callsOf (incremented address o) = increment address ∷ []
 callsOf (fed addresses held o) = pick (eqb (o .0 .0) 0) (map increment (take (o .0 .1 .count) addresses)) []
 callsOf (flipped o) = flip ∷ []
 callsOf (asked number v held o values) = ask number v ∷ []
+callsOf (packeted number i buffer held o values) = askPacket number i buffer ∷ []
 
 -- those of a session
 abbrev callsOver : List Made → List Call
@@ -104,12 +119,14 @@ Tells (increment address) o = (pick (eqb (numberOf (o .answer)) 0) 1 0 ≡ accep
 Tells flip o = isNew (o .answer) ≡ false
 Tells (ask number v) o = (held : AskValues) → (eqb (numberOf (o .answer)) 0 && eqb (toldAsk (o .answer) held .again) 0 ≡ isNew (o .answer))
     × (pick (isNew (o .answer)) (pick (v .clear) (toldAsk (o .answer) held .sum) 0) 0 ≡ clearedBy (ask number v) (o .answer))
+Tells (askPacket number i buffer) o = Unit {0}
 
 -- a refusal's number is not 0
 refusal-tells : (m w : List ℕ) (c : Call) (n : ℕ) → 0 < n → Tells c (refuse n (lent m w))
 refusal-tells m w (increment address) n z = (rw (ne-eqb n 0 (λ e. omega arith)), refl)
 refusal-tells m w flip n z = refl
 refusal-tells m w (ask number v) n z = λ held. (rw (ne-eqb n 0 (λ e. omega arith)), refl)
+refusal-tells m w (askPacket number i buffer) n z = tt
 
 -- every call
 tells : (m w : List ℕ) (c : Call) → Tells c (callMeans m w c)
@@ -119,6 +136,23 @@ tells m w =
     (λ h. refl)
     (λ h number v k t held. (refl, refl))
     (λ h number sum v held. (refl, refl))
+    (λ h number i buffer r few e t. tt)
+    (λ h number total i buffer. tt)
+
+-- and what they tell of a packet ask
+record PacketTells (number : ℕ) (i : Inputs) (buffer : List ℕ) (held : PacketPlaces) (o : PacketOutcome) : Type 0 where
+  new-told : eqb (numberOf (o .answer)) 0 && eqb (toldPacket (o .answer) held .again) 0 ≡ isNew (mapped totalIn (o .answer))
+  cleared-told : pick (isNew (mapped totalIn (o .answer))) (toldPacket (o .answer) held .total) 0
+      ≡ clearedBy (askPacket number i buffer) (mapped totalIn (o .answer))
+
+-- every packet ask
+packet-tells : (m w : List ℕ) (number : ℕ) (i : Inputs) (buffer : List ℕ) (held : PacketPlaces)
+    → PacketTells number i buffer held (packetMeans m w buffer number i)
+packet-tells m w number i buffer held =
+    packet-elim m w buffer number i (PacketTells number i buffer held)
+    (λ n z. record { new-told = rw (ne-eqb n 0 (λ e. omega arith)); cleared-told = refl })
+    (λ h r few e t k. record { new-told = refl; cleared-told = refl })
+    (λ h total t k. record { new-told = refl; cleared-told = refl })
 
 -- what a bench's call does to a ledger: what the library's calls do
 record Goes (l : Ledger) (x : Made) : Type 0 where
@@ -203,6 +237,23 @@ goes l (asked number v held o values) e =
           ∙ t .1));
       none = λ n. (sym new-same ∙ n, tt);
     }
+goes l (packeted number i buffer held o values) e =
+    let p = packetMeans (l .memory) (l .state) buffer number i .answer in
+    let t = packet-tells (l .memory) (l .state) number i buffer held in
+    let new-same : eqb (o .number) 0 && eqb (values .again) 0 ≡ isNew (mapped totalIn p)
+    = ap (λ (y : PacketLeft × PacketPlaces). eqb (y .0 .number) 0 && eqb (y .1 .again) 0) e ∙ t .new-told in
+    record {
+      memory = ap (λ (y : PacketLeft × PacketPlaces). y .0 .memory) e;
+      state = ap (λ (y : PacketLeft × PacketPlaces). y .0 .state) e;
+      increments = refl;
+      cleared =
+          ap (λ (k : ℕ). l .cleared + k)
+          (sym
+          (ap (λ (y : PacketLeft × PacketPlaces). pick (eqb (y .0 .number) 0 && eqb (y .1 .again) 0) (y .1 .total) 0) e
+          ∙ ap (λ (b : Bool). pick b (toldPacket p held .total) 0) (t .new-told)
+          ∙ t .cleared-told));
+      none = λ n. (sym new-same ∙ n, tt);
+    }
 
 -- lent memory and state are a ledger's
 abbrev Same : Left → Ledger → Type 0
@@ -246,7 +297,7 @@ open-accepted m w o e z =
     e
 
 -- demand 3 of the exported calls: from an opening that answered 0, after every session, refused calls and runs of increments among them, the counts in
--- lent memory plus the sums that new clearing asks handed out equal the increments that were accepted
+-- lent memory plus the sums that new clearing asks and the totals that new packet asks handed out equal the increments that were accepted
 pub session-conserves : (m w : List ℕ) (o : Left) → HistogramOpenPromise m w o → o .number ≡ 0 → (xs : List Made) → Session o xs
     → total (lastLeft o xs .memory) + sumOver clearedIn xs ≡ sumOver acceptedIn xs
 session-conserves m w o e z xs s =
@@ -298,4 +349,64 @@ session-repeats o number v held p values later e n s none held′ q values′ e�
       told = ap (λ (y : Left × AskValues). y .1) e′ ∙ ap (λ (x : CallOutcome). toldAsk (x .answer) held′) z;
       memory = ap (λ (y : Left). y .memory) left;
       state = ap (λ (y : Left). y .state) left;
+    }
+
+-- the answer of a new packet ask, from its lent places
+new-packet-answer : (p : Paper PacketValue) (held : PacketPlaces) → isNew (mapped totalIn p) ≡ true
+    → p ≡ accepted (newPacket (record { written = toldPacket p held .written; total = toldPacket p held .total }))
+new-packet-answer (accepted (newPacket v)) held e = refl
+new-packet-answer (accepted (packetAgain v)) held e = absurd (let z : _≡_ {A = ℕ} 0 1 = cc in omega arith)
+new-packet-answer (refusal n carried) held e = absurd (let z : _≡_ {A = ℕ} 0 1 = cc in omega arith)
+
+-- what a repeated packet ask leaves: 0, the same total as again, the same bytes in the buffer, memory and state as they were
+pub record PacketRepeated (before : Left) (first : PacketPlaces) (bytes room : List ℕ) (o : PacketLeft) (values : PacketPlaces) : Type 0 where
+  pub number : o .number ≡ 0
+  pub told : values ≡ record { written = first .written; total = first .total; again = 1 }
+  pub memory : o .memory ≡ before .memory
+  pub state : o .state ≡ before .state
+  pub buffer : o .buffer ≡ put room 0 bytes
+
+-- demand 3 of the exported calls: a new packet ask, and no later ask new: asked again with its number and all its inputs, into a buffer that its packet fits,
+-- it answers the same total as again, writes the same bytes, and changes neither memory nor state
+pub session-packet-repeats : (o : Left) (number : ℕ) (i : Inputs) (buffer : List ℕ) (held : PacketPlaces) (p : PacketLeft) (values : PacketPlaces)
+    (later : List Made)
+    → Meets (o .memory) (o .state) (packeted number i buffer held p values) → newIn (packeted number i buffer held p values) ≡ true
+    → Session (leftOf (packeted number i buffer held p values)) later → NoneNew later
+    → (room : List ℕ) (held′ : PacketPlaces) (q : PacketLeft) (values′ : PacketPlaces) → values .written ≤ length room
+    → Meets (lastLeft (leftOf (packeted number i buffer held p values)) later .memory) (lastLeft (leftOf (packeted number i buffer held p values)) later .state)
+    (packeted number i room held′ q values′)
+    → PacketRepeated (lastLeft (leftOf (packeted number i buffer held p values)) later) values (take (values .written) (p .buffer)) room q values′
+session-packet-repeats o number i buffer held p values later e n s none room held′ q values′ fits e′ =
+    let l : Ledger = record { memory = o .memory; state = o .state; cleared = 0; increments = 0 } in
+    let first = packeted number i buffer held p values in
+    let means : PacketOutcome = packetMeans (o .memory) (o .state) buffer number i in
+    let v : PacketValues = record { written = values .written; total = values .total } in
+    let told-first : values ≡ toldPacket (means .answer) held = ap (λ (y : PacketLeft × PacketPlaces). y .1) e in
+    let is-new : eqb (p .number) 0 && eqb (values .again) 0 ≡ isNew (mapped totalIn (means .answer))
+    = ap (λ (y : PacketLeft × PacketPlaces). eqb (y .0 .number) 0 && eqb (y .1 .again) 0) e
+    ∙ packet-tells (o .memory) (o .state) number i buffer held .new-told in
+    let was : means .answer ≡ accepted (newPacket v) = new-packet-answer (means .answer) held (sym is-new ∙ n)
+    ∙ ap (λ (x : PacketPlaces). accepted (newPacket (record { written = x .written; total = x .total }))) (sym told-first) in
+    let g = goes l first e in
+    let r = follows (leftOf first) (step l (askPacket number i buffer)) later (g .memory, g .state) s in
+    let after = run (step l (askPacket number i buffer)) (callsOver later) in
+    let bytes = take (values .written) (p .buffer) in
+    let same-bytes : take (values .written) (means .leaves .buffer) ≡ bytes
+    = ap (λ (x : List ℕ). take (values .written) x) (sym (ap (λ (y : PacketLeft × PacketPlaces). y .0 .buffer) e)) in
+    let z : packetMeans (lastLeft (leftOf first) later .memory) (lastLeft (leftOf first) later .state) room number i
+    ≡ accept (packetAgain v) (packetLent (lastLeft (leftOf first) later .memory) (lastLeft (leftOf first) later .state) (put room 0 bytes))
+    = ap₂ (λ (m w : List ℕ). packetMeans m w room number i) (r .same .0) (r .same .1)
+    ∙ packet-repeat l number i buffer v (callsOver later) was (r .none none) room fits
+    ∙ ap (λ (x : List ℕ). accept (packetAgain v) (packetLent (after .memory) (after .state) (put room 0 x))) same-bytes
+    ∙ ap₂ (λ (m w : List ℕ). accept (packetAgain v) (packetLent m w (put room 0 bytes))) (sym (r .same .0)) (sym (r .same .1)) in
+    let answer : PacketOutcome =
+    accept (packetAgain v) (packetLent (lastLeft (leftOf first) later .memory) (lastLeft (leftOf first) later .state) (put room 0 bytes)) in
+    let left : _≡_ {A = PacketLeft × PacketPlaces} (q, values′) (packetLeftBy answer, toldPacket (answer .answer) held′)
+    = e′ ∙ ap (λ (x : PacketOutcome). (packetLeftBy x, toldPacket (x .answer) held′)) z in
+    record {
+      number = ap (λ (y : PacketLeft × PacketPlaces). y .0 .number) left;
+      told = ap (λ (y : PacketLeft × PacketPlaces). y .1) left;
+      memory = ap (λ (y : PacketLeft × PacketPlaces). y .0 .memory) left;
+      state = ap (λ (y : PacketLeft × PacketPlaces). y .0 .state) left;
+      buffer = ap (λ (y : PacketLeft × PacketPlaces). y .0 .buffer) left;
     }

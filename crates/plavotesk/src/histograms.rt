@@ -2,12 +2,14 @@
 use histogram::AskAnswer;
 use histogram::IncrementsAnswer;
 use histogram::Window;
+use packet_ask::PacketAnswer;
 use state::NextAnswer;
 ghost use mathlib.Core.Path.{_≡_};
 ghost use Rattle.histogram.specs.Answers.{askPaper};
 ghost use Rattle.histogram.specs.Meaning.{lent};
-ghost use Rattle.plavotesk.specs.Meaning.{toldAsk, windowOf};
-ghost use Rattle.plavotesk.specs.Promise.{HistogramOpenPromise, HistogramIncrementPromise, HistogramFlipPromise, HistogramAskPromise, HistogramIncrementsPromise, HistogramNextPromise};
+ghost use Rattle.packet_ask.specs.Answers.{packetPaper};
+ghost use Rattle.plavotesk.specs.Meaning.{toldAsk, toldPacket, windowOf};
+ghost use Rattle.plavotesk.specs.Promise.{HistogramOpenPromise, HistogramIncrementPromise, HistogramFlipPromise, HistogramAskPromise, HistogramIncrementsPromise, HistogramNextPromise, HistogramPacketPromise};
 
 // Takes 2N words, sets them all to 0, and makes the state of an opened memory in lent words; 13.
 #[no_mangle]
@@ -95,6 +97,39 @@ pub extern "C" fn plv_histogram_ask(
     histogram::ask_number(answer)
 }
 
+// Builds the data packet of a table of items on the idle page, once for each number, and writes it at the buffer's front: the bytes written, and the total of the clearing items' own sums; again is 1 for a repeat, which writes the same bytes, 0 for a new ask; 13, 18, 17, 23, 22, 19, then 14, 16, 12 an item, then 3.
+#[no_mangle]
+pub extern "C" fn plv_histogram_packet(
+    memory: &mut [u32],
+    state: &mut [u64],
+    number: u16,
+    low: u8,
+    items: &[u64],
+    flags: u8,
+    initial: u8,
+    second: u16,
+    buffer: &mut [u8],
+    written: &mut u64,
+    total: &mut u64,
+    again: &mut u8,
+) -> u8
+    ensures { λ r. ⌜ HistogramPacketPromise (now (memory .entry)) (now (state .entry)) (now (buffer .entry)) number (record { low = low; items = now (items .entry); flags = flags; initial = initial; second = second }) (record { written = now (written .entry); total = now (total .entry); again = now (again .entry) }) (record { number = r; memory = now (memory .exit); state = now (state .exit); buffer = now (buffer .exit) }, record { written = now (written .exit); total = now (total .exit); again = now (again .exit) }) ⌝ }
+{
+    let answer = packet_ask::ask_packet(
+        memory,
+        state,
+        number,
+        low,
+        items,
+        flags,
+        initial,
+        second,
+        buffer,
+    );
+    hand_packet_over(answer, written, total, again);
+    packet_ask::packet_number(answer)
+}
+
 // The window of an ask; clear 0 keeps, any other number clears.
 fn window(address: u32, xsize: u8, ysize: u8, ystride: u16, clear: u8) -> Window
     ensures { λ r. ⌜ r ≡ windowOf address xsize ysize ystride clear ⌝ }
@@ -126,6 +161,42 @@ fn hand_over(answer: AskAnswer, sum: &mut u64, again: &mut u8)
         AskAnswer::WrongCell => (),
         AskAnswer::AboveFull => (),
         AskAnswer::OutOfTurn => (),
-        AskAnswer::OtherWindow => (),
+        AskAnswer::OtherAsk => (),
+    }
+}
+
+// Writes an accepted packet ask's bytes and total, and whether it was answered again; nothing where it was refused.
+fn hand_packet_over(answer: PacketAnswer, written: &mut u64, total: &mut u64, again: &mut u8)
+    ensures { λ _. ⌜ now (written .exit) ≡ toldPacket (packetPaper answer) (record { written = now (written .entry); total = now (total .entry); again = now (again .entry) }) .written ⌝ }
+    ensures { λ _. ⌜ now (total .exit) ≡ toldPacket (packetPaper answer) (record { written = now (written .entry); total = now (total .entry); again = now (again .entry) }) .total ⌝ }
+    ensures { λ _. ⌜ now (again .exit) ≡ toldPacket (packetPaper answer) (record { written = now (written .entry); total = now (total .entry); again = now (again .entry) }) .again ⌝ }
+{
+    match answer {
+        PacketAnswer::New {
+            written: count,
+            total: counts,
+        } => {
+            *written = count;
+            *total = counts;
+            *again = 0;
+        }
+        PacketAnswer::Again {
+            written: count,
+            total: counts,
+        } => {
+            *written = count;
+            *total = counts;
+            *again = 1;
+        }
+        PacketAnswer::BufferTooShort => (),
+        PacketAnswer::TooLarge => (),
+        PacketAnswer::WrongMemory => (),
+        PacketAnswer::WrongCell => (),
+        PacketAnswer::AboveFull => (),
+        PacketAnswer::OutOfTurn => (),
+        PacketAnswer::OtherAsk => (),
+        PacketAnswer::OutOfRange => (),
+        PacketAnswer::ForbiddenItem => (),
+        PacketAnswer::TooManyItems => (),
     }
 }
