@@ -40,13 +40,15 @@ enum plv_refusal {
     PLV_COUNTER_FULL = 15,       /* counter full */
     PLV_WORD_ABOVE_FULL = 16,    /* a visited word above 67,108,863 */
     PLV_ASK_OUT_OF_TURN = 17,    /* ask number neither last nor next */
-    PLV_OTHER_WINDOW = 18,       /* last number, other window */
-    PLV_OUT_OF_RANGE = 19,       /* second or level out of range */
-    PLV_NO_PACKET = 20           /* no packet */
+    PLV_OTHER_WINDOW = 18,       /* last number, other window or input, or the other kind of ask */
+    PLV_OUT_OF_RANGE = 19,       /* second, level or flags out of range */
+    PLV_NO_PACKET = 20,          /* no packet */
+    PLV_FORBIDDEN_ITEM = 22,     /* forbidden item: sum, res or enc not 0, or a on the first or after one with t */
+    PLV_TOO_MANY_ITEMS = 23      /* over 64 items */
 };
 
 /* The version of this interface: a library of another version has other calls, or other state words. */
-#define PLV_VERSION 2
+#define PLV_VERSION 3
 
 /* A number that must be looked at: a refused call changed nothing. */
 #if defined(__GNUC__)
@@ -57,6 +59,7 @@ enum plv_refusal {
 
 /* The words of a refusal, as above; "accepted" for 0. */
 static inline const char *plv_refusal_words(uint8_t number) {
+    static const char none[] = "no refusal of this version";
     static const char *const words[] = {
         "accepted",
         "capture over 65,536 bytes",
@@ -76,27 +79,36 @@ static inline const char *plv_refusal_words(uint8_t number) {
         "counter full",
         "a visited word above 67,108,863",
         "ask number neither last nor next",
-        "last number, other window",
-        "second or level out of range",
+        "last number, other window or input, or the other kind of ask",
+        "second, level or flags out of range",
         "no packet",
+        none,
+        "forbidden item: sum, res or enc not 0, or a on the first or after one with t",
+        "over 64 items",
     };
-    return number < sizeof words / sizeof *words ? words[number] : "no refusal of this version";
+    return number < sizeof words / sizeof *words ? words[number] : none;
 }
 
 /* The version of the library that is linked: PLV_VERSION, where header and library belong together. */
 uint32_t plv_version(void);
 
 /* The words of a histogram's state, which the caller lends to each call and keeps between them:
- *   0        2N, the words of the memory that was opened
- *   1        not 0 where the second page is active
- *   2        not 0 where an ask is kept, the last that was accepted:
- *   3        its number
- *   4 to 8   its window: address, xsize, ysize, ystride, and not 0 where it clears
- *   9        its sum
+ *   0          2N, the words of the memory that was opened
+ *   1          not 0 where the second page is active
+ *   2          which ask is kept, the last that was accepted: 0 none, 2 a packet's, any other number a window's (1 is written)
+ *   3          its number
+ *   4 to 8     its window: address, xsize, ysize, ystride, and not 0 where it clears
+ *   9          its sum, or a packet's total
+ *   10 to 13   a packet's low byte, flags, initial level and second
+ *   14         the number of its items; above 64 it says 64
+ *   15 to 78   its items
+ *   79         the number of its bytes; above 243 it says 243
+ *   80 to 322  its bytes, one a word, in the low 8 bits
+ * A call looks only at the words that it needs, and writes only those that it changes; opening writes them all.
  * Memory and state words together are all there is of a board: kept together, a bench goes on from them after it died. Putting
  * back older words of one of them, or of both, brings the dear mistake back: a state from before ask 1 with the memory from after
  * it answers ask 1 as new, with 0. */
-#define PLV_STATE_WORDS 10
+#define PLV_STATE_WORDS 323
 
 /* The checksum of bytes. */
 uint16_t plv_checksum(const uint8_t *bytes, size_t bytes_length);
@@ -193,6 +205,41 @@ PLV_ANSWERS uint8_t plv_histogram_flip(const uint32_t *memory, size_t memory_len
 PLV_ANSWERS uint8_t plv_histogram_ask(uint32_t *memory, size_t memory_length, uint64_t *state, size_t state_length, uint16_t number,
                                       uint32_t address, uint8_t xsize, uint8_t ysize, uint16_t ystride, uint8_t clear, uint64_t *sum,
                                       uint8_t *again);
+
+/* How the result of an item is sent. */
+enum plv_format {
+    PLV_FLOAT16 = 0, /* 16 bits: the code of plv_float16_code */
+    PLV_LOG8 = 1,    /* 8 bits: the byte of plv_log8_code, a run of counts */
+    PLV_INT24 = 2,   /* 24 bits: the count itself */
+    PLV_PACKED = 3   /* 1 bit, or 7 to 29: the code of plv_code_pack with drop 0, a band of counts */
+};
+
+/* An item of a packet's table: a window as of an ask, whether it clears (c), whether its result is sent (t), whether it adds the result
+ * of the item before it (a), and the format (comp). From the top: ystride 16 bits, ysize 8, xsize 8; res 3, enc 3 and sum 3, which are 0;
+ * c, t, a, comp 2, address 18. An address of more bits becomes a window that no memory has (14), a format over 3 a forbidden item (22). */
+static inline uint64_t plv_item(uint32_t address, uint8_t xsize, uint8_t ysize, uint16_t ystride, int clear, int send, int add,
+                                enum plv_format format) {
+    uint64_t cells = (uint64_t)ystride << 48 | (uint64_t)ysize << 40 | (uint64_t)xsize << 32 | address;
+    uint64_t fits = address < 1u << 18 ? cells : (uint64_t)1 << 32 | 0x3ffff;
+    uint64_t sent = (unsigned)format <= 3 ? (uint64_t)format << 18 : (uint64_t)7 << 29;
+    return fits | (uint64_t)(clear != 0) << 22 | (uint64_t)(send != 0) << 21 | (uint64_t)(add != 0) << 20 | sent;
+}
+
+/* The most bytes of a packet that plv_histogram_packet writes. */
+#define PLV_HISTOGRAM_PACKET_BYTES 243
+
+/* Builds a data packet from the idle page, once for each number; asks of both kinds share one row of numbers. Items, at most 64, run in
+ * order, each a window as of plv_histogram_ask; a counter that one of them cleared is 0 for the next. An item's result is its window's
+ * sum, and the result of the item before it where it adds that. The packet's APID is 0x03 and the low byte; its data are one byte, flags
+ * (2 bits), initial level (3) and the level that ends in the second (3), and then the results that are sent, bit after bit, the most
+ * significant first, with zeros to the end of the last byte. It goes to the front of the buffer, written says how many bytes, and total is
+ * the sum of the windows of the items that clear: what a sheet files. The last number with the same low byte, items, flags, level and
+ * second writes the same bytes and answers the same total, with again 1, and changes nothing, whatever was counted since; it meets only 13
+ * and 3; 13, then 18 or 17, 23, 22, 19, item after item 14, 16, and 12 where it is sent, then 3. */
+PLV_ANSWERS uint8_t plv_histogram_packet(uint32_t *memory, size_t memory_length, uint64_t *state, size_t state_length, uint16_t number,
+                                         uint8_t low, const uint64_t *items, size_t items_length, uint8_t flags, uint8_t initial,
+                                         uint16_t second, uint8_t *buffer, size_t buffer_length, uint64_t *written, uint64_t *total,
+                                         uint8_t *again);
 
 #ifdef __cplusplus
 }

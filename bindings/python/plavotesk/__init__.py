@@ -9,9 +9,10 @@ Calls may come from several threads; those on one board go one after the other.
 The shared library is looked for at PLAVOTESK_LIBRARY, beside this package, and where bin/build puts it in a checkout, at the first call.
 """
 from ._library import VERSION
-from .board import STATE_WORDS, Ask, AskStillOpen, Fed, Histogram, Sum, Window
+from .board import PACKET_BYTES, STATE_WORDS, Ask, AskStillOpen, Fed, Histogram, PacketAnswer, PacketAsk, PacketWritten, Sum, Window
 from .boardfile import BoardDamaged, BoardFile, BoardInterrupted, BoardInUse
 from .calls import *
 from .calls import Found, Header, Message, Packet, Rate, Reading
+from .items import Format, Item, PacketInputs
 from .refusals import *
 from .refusals import REFUSALS, Refusal

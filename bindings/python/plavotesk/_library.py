@@ -7,7 +7,7 @@ import pathlib
 import threading
 
 #: The version of the C interface that this package speaks (PLV_VERSION of the header).
-VERSION = 2
+VERSION = 3
 
 _u8, _u16, _u32, _u64 = ctypes.c_uint8, ctypes.c_uint16, ctypes.c_uint32, ctypes.c_uint64
 _i32, _f64 = ctypes.c_int32, ctypes.c_double
@@ -49,6 +49,7 @@ _CALLS: dict[str, tuple[list, type | None]] = {
     'plv_histogram_flip': (_SLICE + _SLICE, _u8),
     'plv_histogram_next': (_SLICE + _to(_u16), _u8),
     'plv_histogram_ask': (_SLICE + _SLICE + [_u16, _u32, _u8, _u8, _u16, _u8] + _to(_u64, _u8), _u8),
+    'plv_histogram_packet': (_SLICE + _SLICE + [_u16, _u8] + _SLICE + [_u8, _u8, _u16] + _SLICE + _to(_u64, _u64, _u8), _u8),
 }
 
 

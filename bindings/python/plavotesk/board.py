@@ -10,6 +10,8 @@ filed or given up, the board makes no other: so an answer that was lost cannot b
 Leaving the block says that the sum is on the sheet, and the board may make the next ask; leaving it by an exception keeps the ask open, and
 `board.open_ask` is where to go on.
 
+A packet ask is such a thing too: `board.ask_packet(inputs)`, of which each try answers the same packet and the same total.
+
 Calls on one board go one after the other, whatever thread they come from. A board cannot be copied or pickled: two of them would file one
 count twice.
 """
@@ -23,12 +25,17 @@ from typing import Any, ContextManager, Iterable, NamedTuple
 
 from ._lent import Lent, whole, within
 from ._library import library
-from .refusals import AskOutOfTurn, WordAboveFull, WrongAddress, WrongMemory, accepted
+from .items import PacketInputs, inputs_of
+from .refusals import AskOutOfTurn, CountTooLarge, ForbiddenItem, OutOfRange, TooManyItems, WordAboveFull, WrongAddress, WrongMemory, accepted
 
 _ASK = struct.Struct('<HIBBHB')
+_PACKET = struct.Struct('<HBBBH')
 
 #: The words of a state (PLV_STATE_WORDS of the header).
-STATE_WORDS = 10
+STATE_WORDS = 323
+
+#: The most bytes of a packet that a packet ask writes (PLV_HISTOGRAM_PACKET_BYTES of the header).
+PACKET_BYTES = 243
 
 
 class Window(NamedTuple):
@@ -79,29 +86,50 @@ class AskStillOpen(Exception):
     """A new ask was wanted while another one is open: its answer may have been lost. Try it again, file it, or give it up."""
 
 
-class Ask:
-    """An ask: its number, its window, and as many tries as it takes. Made by `Histogram.ask`."""
+class PacketAnswer(NamedTuple):
+    """What a packet ask answers: the packet, the total of the windows of its clearing items, and whether it was answered before."""
 
-    def __init__(self, board: Histogram, number: int, window: Window) -> None:
-        self._board, self.number, self.window = board, number, window
-        self._answered: Sum | None = None
+    packet: bytes
+    total: int
+    again: bool
 
-    def __repr__(self) -> str:
-        return f'<ask {self.number} of {self.window}>'
 
-    def answer(self) -> Sum:
-        """One try: the sum. Every further try answers the same sum, as again, and changes nothing. Refusals 14 and 16, which cleared nothing
-        and end the ask; 18 or 17 where another ask was numbered by hand since, which leave it open, to be given up."""
+class PacketWritten(NamedTuple):
+    """What a packet ask into a buffer of the caller's answers: the packet's bytes at its front, the total, and whether it was answered before."""
+
+    written: int
+    total: int
+    again: bool
+
+
+class _Ask:
+    """What asks of both kinds have in common: a number, as many tries as it takes, and an end."""
+
+    _answered: Any = None
+    _refused = False
+
+    def __init__(self, board: Histogram, number: int) -> None:
+        self._board, self.number = board, number
+
+    def _answer(self) -> Any:
+        """One try."""
+        raise NotImplementedError
+
+    def _tried(self) -> Any:
+        """One try. A refusal of what it asks for cleared nothing, and ends the ask; tried once more, it is open again."""
+        self._board._open_again(self)
         try:
-            self._answered = self._board.ask_numbered(self.number, self.window)
-        except (WrongAddress, WordAboveFull):
+            self._answered = self._answer()
+        except (TooManyItems, ForbiddenItem, OutOfRange, WrongAddress, WordAboveFull, CountTooLarge):
+            self._refused = True
             self._board._done(self)
             raise
+        self._refused = False
         return self._answered
 
-    def file(self) -> int:
-        """The sum, which is on the sheet: the ask is done, and the board may make the next one. Tries it where no try came through."""
-        filed = (self._answered or self.answer()).sum
+    def _filed(self) -> Any:
+        """What it answered, tried where no try came through; it is done."""
+        filed = self._answered or self._tried()
         self._board._done(self)
         return filed
 
@@ -109,12 +137,87 @@ class Ask:
         """The caller lets the ask go, answered or not: what it cleared is not filed by it."""
         self._board._done(self)
 
+    def __exit__(self, kind: Any, why: Any, trace: Any) -> None:
+        # one that was given up or refused within the block is not tried once more, where nobody would see what it cleared
+        if kind is None and self._board.open_ask is self:
+            self._filed()
+
+
+class Ask(_Ask):
+    """An ask: its number, its window, and as many tries as it takes. Made by `Histogram.ask`."""
+
+    def __init__(self, board: Histogram, number: int, window: Window) -> None:
+        super().__init__(board, number)
+        self.window = window
+
+    def __repr__(self) -> str:
+        return f'<ask {self.number} of {self.window}>'
+
+    def _answer(self) -> Sum:
+        return self._board.ask_numbered(self.number, self.window)
+
+    def _said(self) -> tuple[bytes, bytes]:
+        """Its record in a board's file."""
+        return b'M', _ASK.pack(self.number, *self.window)
+
+    def answer(self) -> Sum:
+        """One try: the sum. Every further try answers the same sum, as again, and changes nothing. Refusals 14 and 16, which cleared nothing
+        and end the ask; 18 or 17 where another ask was numbered by hand since, which leave it open, to be given up."""
+        return self._tried()
+
+    def file(self) -> int:
+        """The sum, which is on the sheet: the ask is done, and the board may make the next one. Tries it where no try came through."""
+        return self._filed().sum
+
     def __enter__(self) -> Ask:
         return self
 
-    def __exit__(self, kind: Any, why: Any, trace: Any) -> None:
-        if kind is None:
-            self.file()
+
+class PacketAsk(_Ask):
+    """A packet ask: its number, its inputs, and as many tries as it takes. Made by `Histogram.ask_packet`."""
+
+    def __init__(self, board: Histogram, number: int, inputs: PacketInputs) -> None:
+        super().__init__(board, number)
+        self.inputs = inputs
+
+    def __repr__(self) -> str:
+        return f'<packet ask {self.number} of {len(self.inputs.items)} items>'
+
+    def _answer(self) -> PacketAnswer:
+        buffer = bytearray(PACKET_BYTES)
+        written, total, again = self._board.packet_numbered(self.number, self.inputs, buffer)
+        return PacketAnswer(bytes(buffer[:written]), total, again)
+
+    def _said(self) -> tuple[bytes, bytes]:
+        """Its record in a board's file."""
+        return b'Q', _packed(self.number, self.inputs)
+
+    def answer(self) -> PacketAnswer:
+        """One try: the packet and its total. Every further try answers the same, as again, and changes nothing, whatever was counted since.
+        Refusals 23, 22, 19, 14, 16 and 12, which cleared nothing and end the ask; 18 or 17 where another ask was numbered by hand since, which
+        leave it open, to be given up."""
+        return self._tried()
+
+    def file(self) -> PacketAnswer:
+        """The packet and its total, which are on the sheet: the ask is done, and the board may make the next one. Tries it where no try came
+        through."""
+        return self._filed()
+
+    def __enter__(self) -> PacketAsk:
+        return self
+
+
+def _packed(number: int, inputs: PacketInputs) -> bytes:
+    """A packet ask as a record has it."""
+    low, items, flags, initial, second = inputs
+    return _PACKET.pack(number, low, flags, initial, second) + struct.pack(f'<{len(items)}Q', *items)
+
+
+def _unpacked(said: bytes) -> tuple[int, PacketInputs]:
+    """The packet ask of a record."""
+    number, low, flags, initial, second = _PACKET.unpack_from(said)
+    items = said[_PACKET.size:]
+    return number, PacketInputs(low, struct.unpack(f'<{len(items) // 8}Q', items), flags, initial, second)
 
 
 class Histogram:
@@ -129,7 +232,7 @@ class Histogram:
         self._memory = (ctypes.c_uint32 * (2 * counters))()
         self._state = (ctypes.c_uint64 * STATE_WORDS)()
         self._slices = self._memory, 2 * counters, self._state, STATE_WORDS
-        self._open: Ask | None = None
+        self._open: Ask | PacketAsk | None = None
         accepted(library().plv_histogram_open(*self._slices))
 
     def __copy__(self) -> Histogram:
@@ -179,21 +282,42 @@ class Histogram:
         return number.value
 
     @property
-    def open_ask(self) -> Ask | None:
-        """The ask that is neither filed nor given up, if there is one."""
+    def open_ask(self) -> Ask | PacketAsk | None:
+        """The ask of either kind that is neither filed nor given up, if there is one."""
         return self._open
 
     def ask(self, window: Window) -> Ask:
         """A new ask of a window of the idle page, under the next number. Nothing is summed before `answer`. AskStillOpen while another ask
         is neither filed nor given up."""
         with self._lock:
-            if self._open is not None:
-                raise AskStillOpen(f'{self._open!r} is still open, and its answer may have been lost: '
-                                   f'answer it again (open_ask.answer), file it (open_ask.file), or give it up (open_ask.give_up)')
-            made = Ask(self, self.next_number, _window(window))
-            with self._written_down(b'M', _ASK.pack(made.number, *made.window)):
-                self._open = made
-            return made
+            self._none_open()
+            return self._made(Ask(self, self.next_number, _window(window)))
+
+    def ask_packet(self, inputs: PacketInputs) -> PacketAsk:
+        """A new ask of a data packet from the idle page, under the next number. Nothing is summed before `answer`. AskStillOpen while another
+        ask of either kind is neither filed nor given up."""
+        with self._lock:
+            self._none_open()
+            return self._made(PacketAsk(self, self.next_number, inputs_of(inputs)))
+
+    def _none_open(self) -> None:
+        """A new ask may be made."""
+        if self._open is not None:
+            raise AskStillOpen(f'{self._open!r} is still open, and its answer may have been lost: '
+                               f'answer it again (open_ask.answer), file it (open_ask.file), or give it up (open_ask.give_up)')
+
+    def _open_again(self, ask: _Ask) -> None:
+        """An ask that was refused is tried once more: where it may be accepted now, it is open, so that its answer cannot be lost."""
+        with self._lock:
+            if ask._refused and self._open is not ask and self.next_number == ask.number:
+                self._none_open()
+                self._made(ask)
+
+    def _made(self, ask: Any) -> Any:
+        """A new ask, written down."""
+        with self._written_down(*ask._said()):
+            self._open = ask
+        return ask
 
     def ask_numbered(self, number: int, window: Window) -> Sum:
         """An ask under a number of the caller's. The last accepted number with its window answers the same sum again and changes nothing.
@@ -208,13 +332,30 @@ class Histogram:
         accepted(refused)
         return Sum(total.value, again.value == 1)
 
+    def packet_numbered(self, number: int, inputs: PacketInputs, buffer: Any) -> PacketWritten:
+        """A packet ask under a number of the caller's, into a bytearray of the caller's; at most 243 bytes are written. The last accepted number
+        with the same inputs writes the same packet again and changes nothing. Refusals 18 or 17, 23, 22, 19, item after item 14, 16, and 12
+        where it is sent, then 3; the last one again meets only 3."""
+        low, items, flags, initial, second = inputs = inputs_of(inputs)
+        number = whole('number', number)
+        if not 0 <= number < 65536:
+            raise AskOutOfTurn()
+        into = Lent('buffer', buffer, writable=True)
+        table = (ctypes.c_uint64 * max(len(items), 1))(*items)
+        written, total, again = ctypes.c_uint64(), ctypes.c_uint64(), ctypes.c_uint8()
+        with self._written_down(b'P', struct.pack('<B', min(into.length, PACKET_BYTES)) + _packed(number, inputs)):
+            refused = library().plv_histogram_packet(*self._slices, number, low, table, len(items), flags, initial, second, into.address,
+                                                     into.length, written, total, again)
+        accepted(refused)
+        return PacketWritten(written.value, total.value, again.value == 1)
+
     @property
     def memory(self) -> list[int]:
         """The words of both pages, to look at."""
         with self._lock:
             return list(self._memory)
 
-    def _done(self, ask: Ask) -> None:
+    def _done(self, ask: _Ask) -> None:
         """An ask is filed, given up or refused."""
         with self._lock:
             if self._open is ask:

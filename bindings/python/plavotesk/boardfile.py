@@ -9,6 +9,8 @@ not written down has cleared nothing.
         with board.open_ask as ask:
             sheet[ask.number] = ask.answer().sum         # a sheet has one line an ask, under its number: filed twice is filed once
 
+So is a packet ask (`plavotesk.PacketAsk`), which answers the same packet and the same total.
+
 A file is a mark and records. A record is its kind, the length of what follows, a checksum of these two, what follows, and a checksum of it.
 A torn last record is what a bench left that died as it wrote: nothing was answered by it, and it is dropped. A file that is damaged elsewhere
 is refused, and left as it is. One process at a time has a file, by a lock on it. A call that was interrupted after it was written down leaves
@@ -27,13 +29,17 @@ import zlib
 from typing import Any, Iterator
 
 from ._lent import whole
-from .board import _ASK, STATE_WORDS, Ask, Histogram, Window
+from .board import _ASK, STATE_WORDS, Ask, Histogram, PacketAsk, Window, _unpacked
 from .refusals import Refusal
 
 _MARK = b'PLAVOTESK board 1\n'
 _HEAD = struct.Struct('<1sII')
 _SUM = struct.Struct('<I')
-_KINDS = b'S', b'I', b'F', b'M', b'A', b'D'
+# A snapshot, before there were packet asks (with ten state words) and since; particles; a flip; an ask that was made, one that was answered,
+# of a window and of a packet; an ask that is done.
+_BEFORE, _SNAPSHOT = b'S', b'B'
+_KINDS = _BEFORE, _SNAPSHOT, b'I', b'F', b'M', b'A', b'Q', b'P', b'D'
+_WORDS_BEFORE = 10
 _SNAPSHOT_AFTER = 1 << 22
 
 
@@ -137,31 +143,32 @@ class BoardFile(Histogram):
         if not text.startswith(_MARK):
             raise BoardDamaged(f'{self._path} is not the file of a board')
         records = list(_records(text, self._path))
-        last = max((i for i, record in enumerate(records) if record[0] == b'S'), default=None)
+        last = max((i for i, record in enumerate(records) if record[0] in (_BEFORE, _SNAPSHOT)), default=None)
         if last is None:
             raise BoardDamaged(f'{self._path} has no whole snapshot')
-        self._restore(records[last][1])
+        self._restore(*records[last][:2])
         if counters is not None and whole('counters', counters) != self.counters:
             raise ValueError(f'{self._path} has {self.counters} counters a page, not {counters}')
         for kind, said, _end in records[last + 1:]:
             self._play(kind, said)
         os.ftruncate(self._file, records[-1][2])
 
-    def _restore(self, said: bytes) -> None:
-        """Memory, state and the open ask of a snapshot."""
+    def _restore(self, kind: bytes, said: bytes) -> None:
+        """Memory, state and the open ask of a snapshot; words that one of before does not have are 0."""
         words = struct.unpack_from('<I', said)[0]
         super().__init__(words // 2)
-        ctypes.memmove(self._memory, said[4:4 + 4 * words], 4 * words)
-        ctypes.memmove(self._state, said[4 + 4 * words:4 + 4 * words + 8 * STATE_WORDS], 8 * STATE_WORDS)
-        kept = said[4 + 4 * words + 8 * STATE_WORDS:]
-        if kept:
-            self._play(b'M', kept)
+        state = 4 + 4 * words
+        kept = state + 8 * (_WORDS_BEFORE if kind == _BEFORE else STATE_WORDS)
+        ctypes.memmove(self._memory, said[4:state], 4 * words)
+        ctypes.memmove(self._state, said[state:kept], kept - state)
+        ask = b'M' + said[kept:] if kind == _BEFORE else said[kept:]
+        if said[kept:]:
+            self._play(ask[:1], ask[1:])
 
     def _snapshot(self) -> bytes:
         """All there is of a board: the memory, the state's words, the open ask."""
-        ask = self._open
-        kept = _ASK.pack(ask.number, *ask.window) if ask else b''
-        return _record(b'S', struct.pack('<I', len(self._memory)) + bytes(self._memory) + bytes(self._state) + kept)
+        ask = b''.join(self._open._said()) if self._open else b''
+        return _record(_SNAPSHOT, struct.pack('<I', len(self._memory)) + bytes(self._memory) + bytes(self._state) + ask)
 
     def _play(self, kind: bytes, said: bytes) -> None:
         """One record, done again; what was refused is refused again."""
@@ -171,6 +178,11 @@ class BoardFile(Histogram):
             self.flip()
         elif kind == b'D':
             self._open = None
+        elif kind == b'Q':
+            self._open = PacketAsk(self, *_unpacked(said))
+        elif kind == b'P':
+            with contextlib.suppress(Refusal):
+                self.packet_numbered(*_unpacked(said[1:]), bytearray(said[0]))
         else:
             number, *cells, clear = _ASK.unpack(said)
             window = Window(*cells, bool(clear))

@@ -43,9 +43,11 @@ WrongAddress = _named('WrongAddress', 14, "address, or a window's last cell, not
 CounterFull = _named('CounterFull', 15, 'counter full')
 WordAboveFull = _named('WordAboveFull', 16, 'a visited word above 67,108,863')
 AskOutOfTurn = _named('AskOutOfTurn', 17, 'ask number neither last nor next')
-OtherWindow = _named('OtherWindow', 18, 'last number, other window')
-OutOfRange = _named('OutOfRange', 19, 'second or level out of range')
+OtherWindow = _named('OtherWindow', 18, 'last number, other window or input, or the other kind of ask')
+OutOfRange = _named('OutOfRange', 19, 'second, level or flags out of range')
 NoPacket = _named('NoPacket', 20, 'no packet')
+ForbiddenItem = _named('ForbiddenItem', 22, 'forbidden item: sum, res or enc not 0, or a on the first or after one with t')
+TooManyItems = _named('TooManyItems', 23, 'over 64 items')
 
 #: The class of each number.
 REFUSALS: dict[int, type[Refusal]] = {kind.number: kind for kind in Refusal.__subclasses__()}

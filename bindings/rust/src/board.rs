@@ -1,5 +1,6 @@
-//! Histogram memory with its state: a board's counters in two pages, and asks that are things.
+//! Histogram memory with its state: a board's counters in two pages, and asks that are things, of a window's sum or of a data packet.
 
+use crate::items::PacketInputs;
 use crate::raw;
 use crate::refusal::{answer, called, Answer, Refusal};
 use std::fmt;
@@ -50,11 +51,55 @@ impl Ask {
     }
 }
 
-/// A new ask was wanted while another one is open: its answer may have been lost.
+/// What a packet ask answers: the packet, the total of the windows of its clearing items, and whether it was answered before.
+#[derive(Clone, Debug, PartialEq, Eq)]
+pub struct PacketAnswer {
+    pub packet: Vec<u8>,
+    pub total: u64,
+    pub again: bool,
+}
+
+/// What a packet ask into a buffer of the caller's answers: the packet's bytes at its front, and the rest as above.
 #[derive(Clone, Copy, Debug, PartialEq, Eq)]
+pub struct PacketWritten {
+    pub written: usize,
+    pub total: u64,
+    pub again: bool,
+}
+
+/// A packet ask: its number and its inputs. It is tried as often as the link needs ([`Histogram::answer_packet`]), each try the same packet
+/// and the same total, until it is filed or given up; till then its board makes no other ask of either kind. It cannot be cloned.
+#[must_use = "an ask is tried, then filed or given up; till then the board makes no other"]
+#[derive(Debug, PartialEq, Eq)]
+pub struct PacketAsk {
+    number: u16,
+    inputs: PacketInputs,
+}
+
+impl PacketAsk {
+    /// Its number.
+    pub fn number(&self) -> u16 {
+        self.number
+    }
+
+    /// Its inputs.
+    pub fn inputs(&self) -> &PacketInputs {
+        &self.inputs
+    }
+}
+
+/// What an open ask asks for.
+#[derive(Clone, Debug, PartialEq, Eq)]
+pub enum Asked {
+    Window(Window),
+    Packet(PacketInputs),
+}
+
+/// A new ask was wanted while another one is open: its answer may have been lost.
+#[derive(Clone, Debug, PartialEq, Eq)]
 pub struct StillOpen {
     pub number: u16,
-    pub window: Window,
+    pub asked: Asked,
 }
 
 impl fmt::Display for StillOpen {
@@ -97,10 +142,14 @@ impl std::error::Error for NotABoard {}
 pub struct Histogram {
     memory: Vec<u32>,
     state: [u64; raw::STATE_WORDS],
-    open: Option<(u16, Window)>,
+    open: Option<(u16, Asked)>,
 }
 
-const MARK: &[u8; 8] = b"PLVBOARD";
+const MARK: &[u8; 8] = b"PLVBOAR2";
+
+/// The mark of a board's bytes before there were packet asks: its state has the first ten words, and no more of them are kept.
+const MARK_BEFORE: &[u8; 8] = b"PLVBOARD";
+const WORDS_BEFORE: usize = 10;
 
 impl Histogram {
     /// A fresh memory of two pages of so many counters each (1 to 262,144); the first is active. Refusal 13.
@@ -159,44 +208,112 @@ impl Histogram {
         answer(refused, number)
     }
 
-    /// A new ask of a window of the idle page, under the next number. Nothing is summed before [`Histogram::answer`].
-    pub fn ask(&mut self, window: Window) -> Result<Ask, StillOpen> {
-        if let Some((number, window)) = self.open {
-            return Err(StillOpen { number, window });
+    /// The number of a new ask, which is open from now on.
+    fn made(&mut self, asked: Asked) -> Result<u16, StillOpen> {
+        if let Some((number, asked)) = self.open.clone() {
+            return Err(StillOpen { number, asked });
         }
         let number = self.next().expect("the state is whole");
-        self.open = Some((number, window));
-        Ok(Ask { number, window })
+        self.open = Some((number, asked));
+        Ok(number)
     }
 
-    /// The ask that is neither filed nor given up, where it was let go or the board was read from bytes.
+    /// A new ask of a window of the idle page, under the next number. Nothing is summed before [`Histogram::answer`].
+    pub fn ask(&mut self, window: Window) -> Result<Ask, StillOpen> {
+        Ok(Ask { number: self.made(Asked::Window(window))?, window })
+    }
+
+    /// A new ask of a data packet from the idle page, under the next number. Nothing is summed before [`Histogram::answer_packet`].
+    ///
+    /// ```
+    /// use plavotesk::{int24_count, packet_find, packet_payload, Format, Histogram, Item, PacketInputs};
+    /// let mut board = Histogram::open(64).unwrap();
+    /// board.increments(&[3, 3, 40]).unwrap();
+    /// board.flip().unwrap();
+    /// let half = |address| Item { address, xsize: 31, ysize: 0, ystride: 0, clear: true, send: true, add: false, format: Format::Int24 }.word();
+    /// let ask = board.ask_packet(PacketInputs { low: 1, items: vec![half(0), half(32)], flags: 0, initial: 0, second: 59 }).unwrap();
+    /// let lost = board.answer_packet(&ask).unwrap(); // the link timed out, and nobody saw it
+    /// let came = board.answer_packet(&ask).unwrap(); // the same packet, and the same total
+    /// assert_eq!((&came.packet, came.total, came.again), (&lost.packet, 3, true));
+    /// let data = packet_payload(&came.packet, packet_find(&came.packet).unwrap().place);
+    /// let counts: Vec<u32> = data[1..].chunks(3).map(|b| int24_count(u32::from_be_bytes([0, b[0], b[1], b[2]])).unwrap()).collect();
+    /// assert_eq!(counts, [2, 1]);
+    /// board.file_packet(ask);
+    /// ```
+    pub fn ask_packet(&mut self, inputs: PacketInputs) -> Result<PacketAsk, StillOpen> {
+        Ok(PacketAsk { number: self.made(Asked::Packet(inputs.clone()))?, inputs })
+    }
+
+    /// The ask of a window that is neither filed nor given up, where it was let go or the board was read from bytes.
     pub fn open_ask(&self) -> Option<Ask> {
-        self.open.map(|(number, window)| Ask { number, window })
+        match &self.open {
+            Some((number, Asked::Window(window))) => Some(Ask { number: *number, window: *window }),
+            _ => None,
+        }
+    }
+
+    /// The packet ask that is neither filed nor given up, where it was let go or the board was read from bytes.
+    pub fn open_packet_ask(&self) -> Option<PacketAsk> {
+        match &self.open {
+            Some((number, Asked::Packet(inputs))) => Some(PacketAsk { number: *number, inputs: inputs.clone() }),
+            _ => None,
+        }
     }
 
     /// One try of an ask: the sum. Every further try answers the same sum, as again, and changes nothing. Refusals 14 and 16, which cleared
     /// nothing and end the ask; 18 or 17 where another ask was numbered by hand since, which leave it open, to be given up.
     pub fn answer(&mut self, ask: &Ask) -> Answer<Sum> {
         let answered = self.ask_numbered(ask.number, ask.window);
-        if let Err(Refusal::WrongAddress | Refusal::WordAboveFull) = answered {
-            self.close(ask);
-        }
+        self.tried(answered.map(|sum| sum.again), ask.number, Asked::Window(ask.window));
         answered
+    }
+
+    /// One try of a packet ask: the packet and its total. Every further try answers the same, as again, and changes nothing, whatever was
+    /// counted since. Refusals 23, 22, 19, 14, 16 and 12, which cleared nothing and end the ask; 18 or 17 where another ask was numbered by
+    /// hand since, which leave it open, to be given up.
+    pub fn answer_packet(&mut self, ask: &PacketAsk) -> Answer<PacketAnswer> {
+        let mut packet = vec![0; raw::PACKET_BYTES];
+        let answered = self.packet_numbered(ask.number, &ask.inputs, &mut packet);
+        self.tried(answered.map(|packet| packet.again), ask.number, Asked::Packet(ask.inputs.clone()));
+        answered.map(|PacketWritten { written, total, again }| {
+            packet.truncate(written);
+            PacketAnswer { packet, total, again }
+        })
     }
 
     /// The ask's sum is on the sheet: the board may make the next one.
     pub fn file(&mut self, ask: Ask) {
-        self.close(&ask);
+        self.close(ask.number, &Asked::Window(ask.window));
+    }
+
+    /// The packet's counts are on the sheet: the board may make the next ask.
+    pub fn file_packet(&mut self, ask: PacketAsk) {
+        self.close(ask.number, &Asked::Packet(ask.inputs));
     }
 
     /// The caller lets the ask go, answered or not: what it cleared is not filed by it.
     pub fn give_up(&mut self, ask: Ask) {
-        self.close(&ask);
+        self.close(ask.number, &Asked::Window(ask.window));
+    }
+
+    /// The caller lets the packet ask go, answered or not: what it cleared is not filed by it.
+    pub fn give_up_packet(&mut self, ask: PacketAsk) {
+        self.close(ask.number, &Asked::Packet(ask.inputs));
+    }
+
+    /// An ask was tried: a refusal of what it asks for cleared nothing, and ends it; accepted after such a one, it is open again.
+    fn tried(&mut self, again: Answer<bool>, number: u16, asked: Asked) {
+        use Refusal::{CountTooLarge, ForbiddenItem, OutOfRange, TooManyItems, WordAboveFull, WrongAddress};
+        match again {
+            Err(TooManyItems | ForbiddenItem | OutOfRange | WrongAddress | WordAboveFull | CountTooLarge) => self.close(number, &asked),
+            Ok(false) if self.open.is_none() => self.open = Some((number, asked)),
+            _ => {}
+        }
     }
 
     /// An ask is done.
-    fn close(&mut self, ask: &Ask) {
-        if self.open == Some((ask.number, ask.window)) {
+    fn close(&mut self, number: u16, asked: &Asked) {
+        if self.open.as_ref().is_some_and(|(open, what)| (*open, what) == (number, asked)) {
             self.open = None;
         }
     }
@@ -226,12 +343,42 @@ impl Histogram {
         answer(refused, Sum { sum, again: again == 1 })
     }
 
+    /// A packet ask under a number of the caller's, into a buffer of the caller's; at most [`raw::PACKET_BYTES`] are written. The last
+    /// accepted number with the same inputs writes the same packet again and changes nothing. Refusals 18 or 17, 23, 22, 19, item after item
+    /// 14, 16, and 12 where it is sent, then 3; the last one again meets only 3.
+    pub fn packet_numbered(&mut self, number: u16, inputs: &PacketInputs, buffer: &mut [u8]) -> Answer<PacketWritten> {
+        let (mut written, mut total, mut again) = (0, 0, 0);
+        let (memory, state) = (&mut self.memory, &mut self.state);
+        // SAFETY: the slices are lent as they are, and neither `inputs` nor `buffer` is ours; the places are.
+        let refused = called(|| unsafe {
+            raw::plv_histogram_packet(
+                memory.as_mut_ptr(),
+                memory.len(),
+                state.as_mut_ptr(),
+                state.len(),
+                number,
+                inputs.low,
+                inputs.items.as_ptr(),
+                inputs.items.len(),
+                inputs.flags,
+                inputs.initial,
+                inputs.second,
+                buffer.as_mut_ptr(),
+                buffer.len(),
+                &mut written,
+                &mut total,
+                &mut again,
+            )
+        });
+        answer(refused, PacketWritten { written: written as usize, total, again: again == 1 })
+    }
+
     /// The words of both pages, to look at.
     pub fn memory(&self) -> &[u32] {
         &self.memory
     }
 
-    /// All there is of a board: memory, state and the open ask, under a mark and a checksum. The rule for a bench that must be able to go
+    /// All there is of a board: memory, state and the open ask of either kind, under a mark and a checksum. The rule for a bench that must be able to go
     /// on after it died: write down the bytes first, answer afterwards, and put each sum onto the sheet under its ask's number. Bytes from
     /// before an ask that was answered since bring the dear mistake back; keep the last ones only.
     ///
@@ -258,16 +405,25 @@ impl Histogram {
         bytes.extend((self.memory.len() as u32).to_le_bytes());
         bytes.extend(self.memory.iter().flat_map(|word| word.to_le_bytes()));
         bytes.extend(self.state.iter().flat_map(|word| word.to_le_bytes()));
-        let (open, number, window) = match self.open {
-            Some((number, window)) => (1, number, window),
-            None => (0, 0, Window { address: 0, xsize: 0, ysize: 0, ystride: 0, clear: false }),
-        };
-        bytes.push(open);
-        bytes.extend(number.to_le_bytes());
-        bytes.extend(window.address.to_le_bytes());
-        bytes.extend([window.xsize, window.ysize]);
-        bytes.extend(window.ystride.to_le_bytes());
-        bytes.push(window.clear as u8);
+        match &self.open {
+            None => bytes.push(0),
+            Some((number, Asked::Window(window))) => {
+                bytes.push(1);
+                bytes.extend(number.to_le_bytes());
+                bytes.extend(window.address.to_le_bytes());
+                bytes.extend([window.xsize, window.ysize]);
+                bytes.extend(window.ystride.to_le_bytes());
+                bytes.push(window.clear as u8);
+            }
+            Some((number, Asked::Packet(inputs))) => {
+                bytes.push(2);
+                bytes.extend(number.to_le_bytes());
+                bytes.extend([inputs.low, inputs.flags, inputs.initial]);
+                bytes.extend(inputs.second.to_le_bytes());
+                bytes.extend((inputs.items.len() as u32).to_le_bytes());
+                bytes.extend(inputs.items.iter().flat_map(|item| item.to_le_bytes()));
+            }
+        }
         bytes.extend(crate::checksum(&bytes).to_le_bytes());
         bytes
     }
@@ -279,25 +435,28 @@ impl Histogram {
             return Err(NotABoard);
         }
         let mut rest = Rest(body);
-        if rest.take::<8>()? != *MARK {
-            return Err(NotABoard);
-        }
+        let kept = match &rest.take::<8>()? {
+            MARK => raw::STATE_WORDS,
+            MARK_BEFORE => WORDS_BEFORE,
+            _ => return Err(NotABoard),
+        };
         let words = u32::from_le_bytes(rest.take()?) as usize;
         let mut board = Histogram::open(words / 2).map_err(|_| NotABoard)?;
         for word in &mut board.memory {
             *word = u32::from_le_bytes(rest.take()?);
         }
-        for word in &mut board.state {
+        for word in &mut board.state[..kept] {
             *word = u64::from_le_bytes(rest.take()?);
         }
         let [open] = rest.take()?;
-        let number = u16::from_le_bytes(rest.take()?);
-        let address = u32::from_le_bytes(rest.take()?);
-        let [xsize, ysize] = rest.take()?;
-        let ystride = u16::from_le_bytes(rest.take()?);
-        let [clear] = rest.take()?;
-        let window = Window { address, xsize, ysize, ystride, clear: clear == 1 };
-        board.open = (open == 1).then_some((number, window));
+        board.open = match open {
+            // bytes of before have a window there, where none is open, too
+            0 if kept == WORDS_BEFORE => rest.window().map(|_| None)?,
+            0 => None,
+            1 => Some(rest.window()?),
+            2 => Some(rest.packet()?),
+            _ => return Err(NotABoard),
+        };
         if rest.0.is_empty() { Ok(board) } else { Err(NotABoard) }
     }
 }
@@ -311,5 +470,25 @@ impl Rest<'_> {
         let (next, rest) = self.0.split_first_chunk::<N>().ok_or(NotABoard)?;
         self.0 = rest;
         Ok(*next)
+    }
+
+    /// An open ask of a window.
+    fn window(&mut self) -> Result<(u16, Asked), NotABoard> {
+        let number = u16::from_le_bytes(self.take()?);
+        let address = u32::from_le_bytes(self.take()?);
+        let [xsize, ysize] = self.take()?;
+        let ystride = u16::from_le_bytes(self.take()?);
+        let [clear] = self.take()?;
+        Ok((number, Asked::Window(Window { address, xsize, ysize, ystride, clear: clear == 1 })))
+    }
+
+    /// An open packet ask.
+    fn packet(&mut self) -> Result<(u16, Asked), NotABoard> {
+        let number = u16::from_le_bytes(self.take()?);
+        let [low, flags, initial] = self.take()?;
+        let second = u16::from_le_bytes(self.take()?);
+        let count = u32::from_le_bytes(self.take()?);
+        let items = (0..count).map(|_| self.take().map(u64::from_le_bytes)).collect::<Result<_, _>>()?;
+        Ok((number, Asked::Packet(PacketInputs { low, items, flags, initial, second })))
     }
 }

@@ -21,9 +21,11 @@
 pub mod raw;
 
 mod board;
+mod items;
 mod refusal;
 
-pub use board::{Ask, Fed, Histogram, NotABoard, StillOpen, Sum, Window};
+pub use board::{Ask, Asked, Fed, Histogram, NotABoard, PacketAnswer, PacketAsk, PacketWritten, StillOpen, Sum, Window};
+pub use items::{Format, Item, PacketInputs};
 pub use refusal::{Answer, Refusal};
 
 use refusal::{answer, called};

@@ -1,10 +1,13 @@
 //! The exported calls as they are: `include/plavotesk.h` in Rust's types.
 
 /// The version of the C interface that this crate speaks (PLV_VERSION of the header).
-pub const VERSION: u32 = 2;
+pub const VERSION: u32 = 3;
 
 /// The words of a histogram's state.
-pub const STATE_WORDS: usize = 10;
+pub const STATE_WORDS: usize = 323;
+
+/// The most bytes of a packet that a packet ask writes (PLV_HISTOGRAM_PACKET_BYTES of the header).
+pub const PACKET_BYTES: usize = 243;
 
 #[link(name = "plavotesk", kind = "static")]
 extern "C" {
@@ -96,6 +99,24 @@ extern "C" {
         ystride: u16,
         clear: u8,
         sum: &mut u64,
+        again: &mut u8,
+    ) -> u8;
+    pub fn plv_histogram_packet(
+        memory: *mut u32,
+        memory_length: usize,
+        state: *mut u64,
+        state_length: usize,
+        number: u16,
+        low: u8,
+        items: *const u64,
+        items_length: usize,
+        flags: u8,
+        initial: u8,
+        second: u16,
+        buffer: *mut u8,
+        buffer_length: usize,
+        written: &mut u64,
+        total: &mut u64,
         again: &mut u8,
     ) -> u8;
 }

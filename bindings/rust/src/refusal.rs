@@ -41,15 +41,19 @@ pub enum Refusal {
     WordAboveFull,
     /// 17: ask number neither last nor next.
     AskOutOfTurn,
-    /// 18: last number, other window.
+    /// 18: last number, other window or input, or the other kind of ask.
     OtherWindow,
-    /// 19: second or level out of range.
+    /// 19: second, level or flags out of range.
     OutOfRange,
     /// 20: no packet.
     NoPacket {
         /// The bytes skipped, where a packet was looked for.
         skipped: Option<u64>,
     },
+    /// 22: forbidden item: sum, res or enc not 0, or a on the first or after one with t.
+    ForbiddenItem,
+    /// 23: over 64 items.
+    TooManyItems,
 }
 
 impl Refusal {
@@ -76,6 +80,8 @@ impl Refusal {
             Refusal::OtherWindow => 18,
             Refusal::OutOfRange => 19,
             Refusal::NoPacket { .. } => 20,
+            Refusal::ForbiddenItem => 22,
+            Refusal::TooManyItems => 23,
         }
     }
 
@@ -99,9 +105,11 @@ impl Refusal {
             Refusal::CounterFull => "counter full",
             Refusal::WordAboveFull => "a visited word above 67,108,863",
             Refusal::AskOutOfTurn => "ask number neither last nor next",
-            Refusal::OtherWindow => "last number, other window",
-            Refusal::OutOfRange => "second or level out of range",
+            Refusal::OtherWindow => "last number, other window or input, or the other kind of ask",
+            Refusal::OutOfRange => "second, level or flags out of range",
             Refusal::NoPacket { .. } => "no packet",
+            Refusal::ForbiddenItem => "forbidden item: sum, res or enc not 0, or a on the first or after one with t",
+            Refusal::TooManyItems => "over 64 items",
         }
     }
 
@@ -128,7 +136,9 @@ impl Refusal {
             17 => Refusal::AskOutOfTurn,
             18 => Refusal::OtherWindow,
             19 => Refusal::OutOfRange,
-            _ => Refusal::NoPacket { skipped },
+            20 => Refusal::NoPacket { skipped },
+            22 => Refusal::ForbiddenItem,
+            _ => Refusal::TooManyItems,
         })
     }
 }
