@@ -287,6 +287,74 @@ static void histogram(void) {
     show_memory();
 }
 
+static uint32_t counters[16];
+static uint64_t words[PLV_STATE_WORDS];
+static uint8_t buffer[PLV_HISTOGRAM_PACKET_BYTES];
+
+/* A packet asked with low byte 1, initial level 5 and second 59, into so much room. */
+static void packet(const char *name, uint16_t number, const uint64_t *items, size_t length, uint8_t flags, size_t room) {
+    uint64_t written = 0, total = 0;
+    uint8_t again = 0;
+    if (accepted(name, plv_histogram_packet(counters, 16, words, PLV_STATE_WORDS, number, 1, items, length, flags, 5, 59, buffer, room,
+                                            &written, &total, &again))) {
+        printf("%" PRIu64 " bytes, total %" PRIu64 ", %s\n", written, total, again ? "again" : "new");
+    }
+}
+
+static void packet_asks(void) {
+    static const uint32_t fed[] = {0, 1, 1, 2, 2, 2, 5};
+    static uint32_t many[1024];
+    const uint64_t items[] = {
+        plv_item(0, 1, 0, 0, 1, 1, 0, PLV_FLOAT16), plv_item(2, 0, 0, 0, 1, 0, 0, PLV_FLOAT16), plv_item(4, 1, 0, 0, 0, 1, 1, PLV_PACKED),
+        plv_item(0, 6, 0, 0, 0, 1, 0, PLV_LOG8),    plv_item(0, 1, 2, 1, 1, 1, 0, PLV_INT24),
+    };
+    const uint64_t far[] = {items[0], plv_item(1 << 18, 255, 255, 65535, 0, 0, 0, PLV_FLOAT16)};
+    uint64_t chain[65], count = 0, sum = 0;
+    uint8_t ended = 0, again = 0;
+    for (int i = 0; i < 1024; i++) {
+        many[i] = 7;
+    }
+    for (int i = 0; i < 65; i++) {
+        chain[i] = plv_item(7, 0, 255, 0, 0, i == 63, i > 0, PLV_INT24);
+    }
+    if (plv_histogram_open(counters, 16, words, PLV_STATE_WORDS) != PLV_ACCEPTED ||
+        plv_histogram_increments(counters, 16, words, PLV_STATE_WORDS, fed, 7, &count, &ended) != PLV_ACCEPTED ||
+        plv_histogram_increments(counters, 16, words, PLV_STATE_WORDS, many, 1024, &count, &ended) != PLV_ACCEPTED ||
+        plv_histogram_flip(counters, 16, words, PLV_STATE_WORDS) != PLV_ACCEPTED) {
+        printf("not fed\n");
+    }
+    for (int i = 0; i < 5; i++) {
+        printf("item: %016" PRIx64 "\n", items[i]);
+    }
+    printf("item too far: %016" PRIx64 "\n", far[1]);
+    packet("packet of 65 items", 1, chain, 65, 2, 243);
+    packet("packet whose first item adds", 1, items + 2, 3, 2, 243);
+    packet("packet with flags 4", 1, items, 5, 4, 243);
+    packet("packet too far", 1, far, 2, 2, 243);
+    packet("packet too large", 1, chain, 64, 2, 243);
+    packet("packet into too little", 1, items, 5, 2, 17);
+    packet("packet 1", 1, items, 5, 2, 18);
+    hex("packet", buffer, 18);
+    header("header", buffer, 18, 0);
+    payload("payload", buffer, 18, 0);
+    memset(buffer, 0xee, sizeof buffer);
+    packet("packet 1", 1, items, 5, 2, 18);
+    hex("packet", buffer, 18);
+    packet("packet 1 into too little", 1, items, 5, 2, 17);
+    packet("packet 1 with flags 4", 1, items, 5, 4, 243);
+    packet("packet 1 of other items", 1, items, 4, 2, 243);
+    packet("packet 3", 3, items, 5, 2, 243);
+    if (accepted("ask 1", plv_histogram_ask(counters, 16, words, PLV_STATE_WORDS, 1, 0, 7, 0, 0, 1, &sum, &again))) {
+        printf("%" PRIu64 " %s\n", sum, again ? "again" : "new");
+    }
+    packet("packet of no items", 2, items, 0, 0, 11);
+    hex("packet", buffer, 11);
+    if (accepted("ask 3", plv_histogram_ask(counters, 16, words, PLV_STATE_WORDS, 3, 0, 7, 0, 0, 1, &sum, &again))) {
+        printf("%" PRIu64 " %s\n", sum, again ? "again" : "new");
+    }
+    packet("packet 3", 3, items, 5, 2, 243);
+}
+
 int main(void) {
     printf("version: %s\n", plv_version() == PLV_VERSION ? "as it should be" : "another");
     packets();
@@ -296,5 +364,11 @@ int main(void) {
     logarithms();
     cadence();
     histogram();
-    return strcmp(plv_refusal_words(0), "accepted") != 0 || strcmp(plv_refusal_words(21), "no refusal of this version") != 0;
+    packet_asks();
+    for (int number = 21; number < 256; number += number == 21 ? 3 : 1) {
+        if (strcmp(plv_refusal_words((uint8_t)number), "no refusal of this version") != 0) {
+            return 1;
+        }
+    }
+    return strcmp(plv_refusal_words(0), "accepted") != 0;
 }

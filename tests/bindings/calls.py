@@ -1,6 +1,6 @@
 """Every call of the Python binding on document 01's cases and on refusals, a line each; the Rust binding prints the same."""
 import plavotesk
-from plavotesk import Message, Refusal, Window
+from plavotesk import Format, Item, Message, PacketInputs, Refusal, Window
 
 
 def line(name, call, said=str):
@@ -99,10 +99,12 @@ def counts():
         line(f'ending {second}', lambda: plavotesk.second_ending(second))
 
 
-def histogram():
-    def sums(answer):
-        return f'{answer.sum} {"again" if answer.again else "new"}'
+def sums(answer):
+    """What an ask says."""
+    return f'{answer.sum} {"again" if answer.again else "new"}'
 
+
+def histogram():
     def fed(answer):
         return f'{answer.count} counted, ended by {answer.ended}'
 
@@ -134,9 +136,58 @@ def histogram():
     print(f'memory: {board.memory}')
 
 
+def packet_asks():
+    def packed(answer):
+        return f'{answer.written} bytes, total {answer.total}, {"again" if answer.again else "new"}'
+
+    def asked(items, flags=2):
+        return PacketInputs(1, items, flags, 5, 59)
+
+    items = [Item(0, 1, 0, 0, True, True, False, Format.FLOAT16), Item(2, 0, 0, 0, True, False, False, Format.FLOAT16),
+             Item(4, 1, 0, 0, False, True, True, Format.PACKED), Item(0, 6, 0, 0, False, True, False, Format.LOG8),
+             Item(0, 1, 2, 1, True, True, False, Format.INT24)]
+    chain = [Item(7, 0, 255, 0, False, i == 63, i > 0, Format.INT24) for i in range(65)]
+    far = [items[0], Item(1 << 18, 255, 255, 65535, False, False, False, Format.FLOAT16)]
+    board = plavotesk.Histogram(8)
+    board.increments([0, 1, 1, 2, 2, 2, 5] + [7] * 1024)
+    board.flip()
+    for item in items:
+        assert Item.of(item.word) == item
+        print(f'item: {item.word:016x}')
+    print(f'item too far: {far[1].word:016x}')
+    buffer = bytearray(243)
+
+    def packet(name, number, inputs, room=243):
+        line(name, lambda: board.packet_numbered(number, inputs, memoryview(buffer)[:room]), packed)
+
+    packet('packet of 65 items', 1, asked(chain))
+    packet('packet whose first item adds', 1, asked(items[2:]))
+    packet('packet with flags 4', 1, asked(items, 4))
+    packet('packet too far', 1, asked(far))
+    packet('packet too large', 1, asked(chain[:64]))
+    packet('packet into too little', 1, asked(items), 17)
+    packet('packet 1', 1, asked(items), 18)
+    print(f'packet: {buffer[:18].hex()}')
+    line('header', lambda: plavotesk.packet_header(buffer, 0), pair)
+    print(f'payload: {plavotesk.packet_payload(buffer, 0).hex()}')
+    buffer[:] = b'\xee' * 243
+    packet('packet 1', 1, asked(items), 18)
+    print(f'packet: {buffer[:18].hex()}')
+    packet('packet 1 into too little', 1, asked(items), 17)
+    packet('packet 1 with flags 4', 1, asked(items, 4))
+    packet('packet 1 of other items', 1, asked(items[:4]))
+    packet('packet 3', 3, asked(items))
+    line('ask 1', lambda: board.ask_numbered(1, Window(0, 7, 0, 0, True)), sums)
+    packet('packet of no items', 2, asked([], 0), 11)
+    print(f'packet: {buffer[:11].hex()}')
+    line('ask 3', lambda: board.ask_numbered(3, Window(0, 7, 0, 0, True)), sums)
+    packet('packet 3', 3, asked(items))
+
+
 print('version: as it should be')
 packets()
 messages()
 codes()
 counts()
 histogram()
+packet_asks()

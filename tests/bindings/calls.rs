@@ -95,8 +95,11 @@ fn counts() {
     }
 }
 
+fn sums(sum: Sum) -> String {
+    format!("{} {}", sum.sum, if sum.again { "again" } else { "new" })
+}
+
 fn histogram() -> Result<(), Box<dyn Error>> {
-    let sums = |sum: Sum| format!("{} {}", sum.sum, if sum.again { "again" } else { "new" });
     let cells = Window { address: 0, xsize: 1, ysize: 0, ystride: 0, clear: true };
     line("open 0", Histogram::open(0).map(|_| ()), |_| String::new());
     line("open 262145", Histogram::open(262_145).map(|_| ()), |_| String::new());
@@ -111,7 +114,7 @@ fn histogram() -> Result<(), Box<dyn Error>> {
     let ask = board.ask(cells)?;
     line("ask 1", board.answer(&ask), sums);
     line("ask 1", board.answer(&ask), sums);
-    assert_eq!(board.ask(cells), Err(StillOpen { number: 1, window: cells }));
+    assert_eq!(board.ask(cells), Err(StillOpen { number: 1, asked: Asked::Window(cells) }));
     assert_eq!(board.open_ask(), Some(ask));
     let mut board = Histogram::from_bytes(&board.to_bytes())?;
     let ask = board.open_ask().ok_or("the ask is lost")?;
@@ -146,11 +149,127 @@ fn damaged(board: &Histogram) {
     }
 }
 
+fn packet_asks() -> Result<(), Box<dyn Error>> {
+    let item = |address, xsize, ysize, ystride, [clear, send, add]: [bool; 3], format| {
+        let item = Item { address, xsize, ysize, ystride, clear, send, add, format };
+        assert!(address > 0x3ffff || Item::of(item.word()) == Some(item));
+        item.word()
+    };
+    let items = [
+        item(0, 1, 0, 0, [true, true, false], Format::Float16),
+        item(2, 0, 0, 0, [true, false, false], Format::Float16),
+        item(4, 1, 0, 0, [false, true, true], Format::Packed),
+        item(0, 6, 0, 0, [false, true, false], Format::Log8),
+        item(0, 1, 2, 1, [true, true, false], Format::Int24),
+    ];
+    let chain: Vec<u64> = (0..65).map(|i| item(7, 0, 255, 0, [false, i == 63, i > 0], Format::Int24)).collect();
+    let far = [items[0], item(1 << 18, 255, 255, 65_535, [false; 3], Format::Float16)];
+    let asked = |items: &[u64], flags| PacketInputs { low: 1, items: items.to_vec(), flags, initial: 5, second: 59 };
+    let mut board = Histogram::open(8)?;
+    board.increments(&[0, 1, 1, 2, 2, 2, 5])?;
+    board.increments(&[7; 1024])?;
+    board.flip()?;
+    for item in items {
+        println!("item: {item:016x}");
+    }
+    println!("item too far: {:016x}", far[1]);
+    let mut buffer = [0; raw::PACKET_BYTES];
+    let packed = |p: PacketWritten| format!("{} bytes, total {}, {}", p.written, p.total, if p.again { "again" } else { "new" });
+    line("packet of 65 items", board.packet_numbered(1, &asked(&chain, 2), &mut buffer), packed);
+    line("packet whose first item adds", board.packet_numbered(1, &asked(&items[2..], 2), &mut buffer), packed);
+    line("packet with flags 4", board.packet_numbered(1, &asked(&items, 4), &mut buffer), packed);
+    line("packet too far", board.packet_numbered(1, &asked(&far, 2), &mut buffer), packed);
+    line("packet too large", board.packet_numbered(1, &asked(&chain[..64], 2), &mut buffer), packed);
+    line("packet into too little", board.packet_numbered(1, &asked(&items, 2), &mut buffer[..17]), packed);
+    line("packet 1", board.packet_numbered(1, &asked(&items, 2), &mut buffer[..18]), packed);
+    println!("packet: {}", hex(&buffer[..18]));
+    line("header", packet_header(&buffer, 0), |h| format!("{} {}", h.apid, h.length));
+    println!("payload: {}", hex(packet_payload(&buffer, 0)));
+    buffer.fill(0xee);
+    line("packet 1", board.packet_numbered(1, &asked(&items, 2), &mut buffer[..18]), packed);
+    println!("packet: {}", hex(&buffer[..18]));
+    line("packet 1 into too little", board.packet_numbered(1, &asked(&items, 2), &mut buffer[..17]), packed);
+    line("packet 1 with flags 4", board.packet_numbered(1, &asked(&items, 4), &mut buffer), packed);
+    line("packet 1 of other items", board.packet_numbered(1, &asked(&items[..4], 2), &mut buffer), packed);
+    line("packet 3", board.packet_numbered(3, &asked(&items, 2), &mut buffer), packed);
+    let all = Window { address: 0, xsize: 7, ysize: 0, ystride: 0, clear: true };
+    line("ask 1", board.ask_numbered(1, all), sums);
+    line("packet of no items", board.packet_numbered(2, &asked(&[], 0), &mut buffer[..11]), packed);
+    println!("packet: {}", hex(&buffer[..11]));
+    line("ask 3", board.ask_numbered(3, all), sums);
+    line("packet 3", board.packet_numbered(3, &asked(&items, 2), &mut buffer), packed);
+    things(board, asked(&items, 2), asked(&chain, 2))
+}
+
+/// A packet ask is a thing: made once, tried as often as the link needs, gone on with from a board's bytes; till it is filed or given up no
+/// other ask of either kind is made.
+fn things(mut board: Histogram, inputs: PacketInputs, refused: PacketInputs) -> Result<(), Box<dyn Error>> {
+    let all = Window { address: 0, xsize: 7, ysize: 0, ystride: 0, clear: true };
+    board.increments(&[0, 2, 5])?;
+    board.flip()?;
+    let ask = board.ask_packet(inputs.clone())?;
+    let still_open = StillOpen { number: 4, asked: Asked::Packet(inputs.clone()) };
+    assert_eq!((board.ask(all).err(), board.ask_packet(refused.clone()).err()), (Some(still_open.clone()), Some(still_open)));
+    let kept = board.to_bytes(); // written down before it is answered
+    let first = board.answer_packet(&ask)?;
+    assert_eq!((first.total, first.again, ask.inputs(), board.open_ask()), (3, false, &inputs, None));
+    board.increments(&[1, 1])?;
+    board.flip()?;
+    for bytes in [kept, board.to_bytes()] {
+        let mut board = Histogram::from_bytes(&bytes)?;
+        let ask = board.open_packet_ask().ok_or("the packet ask is lost")?;
+        assert_eq!(board.answer_packet(&ask)?.packet, first.packet);
+        assert_eq!(board.answer_packet(&ask)?, PacketAnswer { again: true, ..first.clone() });
+        board.file_packet(ask);
+        assert_eq!((board.open_packet_ask(), board.next()), (None, Ok(5)));
+        let ask = board.ask_packet(refused.clone())?;
+        assert_eq!((board.answer_packet(&ask), board.open_packet_ask()), (Err(Refusal::TooManyItems), None));
+        let ask = board.ask_packet(inputs.clone())?;
+        assert!(board.ask_numbered(5, all).is_ok());
+        assert_eq!(board.answer_packet(&ask), Err(Refusal::OtherWindow));
+        assert!(board.open_packet_ask().is_some());
+        board.give_up_packet(ask);
+        assert!(Histogram::from_bytes(&board.to_bytes())?.open_packet_ask().is_none());
+        let ask = board.ask_packet(PacketInputs { items: refused.items[..64].to_vec(), ..refused.clone() })?;
+        board.increments(&[7; 1024])?;
+        board.flip()?;
+        assert_eq!((board.answer_packet(&ask), board.open_packet_ask()), (Err(Refusal::CountTooLarge), None));
+        board.flip()?;
+        assert!(board.answer_packet(&ask).is_ok() && board.open_packet_ask().is_some());
+        board.file_packet(ask);
+    }
+    damaged(&board);
+    before();
+    Ok(())
+}
+
+/// A board's bytes as they were written before there were packet asks, with an ask under way and with none: it goes on, and the words that
+/// they do not have are 0.
+fn before() {
+    for open in [0, 1] {
+        let mut bytes = b"PLVBOARD".to_vec();
+        bytes.extend([2u32, 7, 9].iter().flat_map(|word| word.to_le_bytes()));
+        bytes.extend([2u64, 1, 1, 1, 0, 0, 0, 0, 1, 33].iter().flat_map(|word| word.to_le_bytes()));
+        bytes.extend([open, open, 0, 0, 0, 0, 0, 0, 0, 0, 0, open]);
+        bytes.extend(checksum(&bytes).to_le_bytes());
+        let mut board = Histogram::from_bytes(&bytes).expect("a board of before");
+        assert_eq!((board.memory(), board.next(), board.open_ask().is_some()), (&[7, 9][..], Ok(2), open == 1));
+        if let Some(ask) = board.open_ask() {
+            assert_eq!(board.answer(&ask), Ok(Sum { sum: 33, again: true }));
+            board.file(ask);
+        }
+        let ask = board.ask_packet(PacketInputs { low: 0, items: vec![], flags: 0, initial: 0, second: 0 }).expect("no ask is open");
+        assert_eq!(board.answer_packet(&ask).expect("a packet").packet.len(), 11);
+        board.file_packet(ask);
+    }
+}
+
 fn main() -> Result<(), Box<dyn Error>> {
     println!("version: {}", if unsafe { raw::plv_version() } == raw::VERSION { "as it should be" } else { "another" });
     packets();
     messages();
     codes();
     counts();
-    histogram()
+    histogram()?;
+    packet_asks()
 }

@@ -1,15 +1,19 @@
-"""A bench that dies at every step, starts again and goes on: every count is filed once. And files that are cut or damaged."""
+"""A bench that dies at every step, starts again and goes on: every count is filed once, by asks of both kinds. And files that are cut, damaged
+or of an earlier version."""
 import os
 import pathlib
+import struct
 import sys
 import tempfile
 
 import plavotesk
-from plavotesk import BoardDamaged, BoardFile, BoardInterrupted, BoardInUse, Window, boardfile
+from plavotesk import (BoardDamaged, BoardFile, BoardInterrupted, BoardInUse, BufferTooShort, Format, Item, PacketAsk, PacketInputs, Window,
+                       boardfile)
 
 COUNTERS = 8
 PARTICLES = 10
 ALL = Window(0, COUNTERS - 1, 0, 0, True)
+HALVES = PacketInputs(1, [Item(address, 3, 0, 0, True, True, False, Format.INT24) for address in (0, 4)], 0, 0, 59)
 
 
 def filed(sheet):
@@ -28,15 +32,26 @@ def put(sheet, text):
     boardfile.os.replace(new, sheet)
 
 
+def counted(ask):
+    """What an ask answers for the sheet: its sum, or the counts in its packet, which are its total."""
+    answer = ask.answer()
+    if not isinstance(ask, PacketAsk):
+        return answer.sum
+    data = next(plavotesk.packets(answer.packet)).data
+    counts = [plavotesk.int24_count(int.from_bytes(data[place:place + 3], 'big')) for place in range(1, len(data), 3)]
+    assert sum(counts) == answer.total and len(counts) == 2, (counts, answer)
+    return sum(counts)
+
+
 def file_it(sheet, asked):
     """Files the sum of an ask, once under its number, and then says so to the board."""
     with asked as ask:
-        sums = filed(sheet) | {ask.number: ask.answer().sum}
+        sums = filed(sheet) | {ask.number: counted(ask)}
         put(sheet, ''.join(f'{number} {total}\n' for number, total in sums.items()))
 
 
 def bench(folder):
-    """Feeds particles, flips, asks and files, from wherever an earlier one died."""
+    """Feeds particles, flips, asks by packets and windows in turn and files, from wherever an earlier one died."""
     sheet = folder / 'sheet'
     with BoardFile(folder / 'board', COUNTERS) as board:
         if board.open_ask:
@@ -46,9 +61,9 @@ def bench(folder):
             if done == PARTICLES:
                 return
             fed = done + sum(board.memory)
-            board.increments([i % COUNTERS for i in range(fed, min(fed + 5, PARTICLES))])
+            board.increments([i % COUNTERS for i in range(fed, min(fed + 4, PARTICLES))])
             board.flip()
-            file_it(sheet, board.ask(ALL))
+            file_it(sheet, board.ask_packet(HALVES) if board.next_number % 2 else board.ask(ALL))
 
 
 class Dying:
@@ -176,13 +191,13 @@ class Interrupting:
 
 def interrupted():
     """An interrupt between a record and its call: the board takes no call, and opened again it is where the file is."""
-    for how in ('before', 'half', 'after'):
+    for how, packet in ((how, packet) for how in ('before', 'half', 'after') for packet in (False, True)):
         with tempfile.TemporaryDirectory() as name:
             path = pathlib.Path(name) / 'board'
             board = BoardFile(path, COUNTERS)
             board.increments([1, 2])
             board.flip()
-            ask = board.ask(ALL)
+            ask = board.ask_packet(HALVES) if packet else board.ask(ALL)
             boardfile.os = Interrupting(1, how)
             try:
                 ask.answer()
@@ -199,7 +214,7 @@ def interrupted():
                     pass
             board.close()
             with BoardFile(path) as board:
-                assert board.open_ask.answer() == (2, how == 'after'), how
+                assert board.open_ask.answer()[-2:] == (2, how == 'after'), how
                 board.open_ask.file()
                 assert sum(board.memory) == 0
     print('an interrupt between a record and its call: opened again, every count is filed once')
@@ -234,8 +249,63 @@ def unknown():
             assert path.read_bytes() == text
 
 
+def kept():
+    """A packet ask that was answered is answered again from the file, by its records and by a snapshot, whatever was counted since; one into
+    too little room is refused again as the file is opened."""
+    for after in (boardfile._SNAPSHOT_AFTER, -1):
+        with tempfile.TemporaryDirectory() as name:
+            path = pathlib.Path(name) / 'board'
+            boardfile._SNAPSHOT_AFTER, usual = after, boardfile._SNAPSHOT_AFTER
+            with BoardFile(path, COUNTERS) as board:
+                board.increments([1, 2, 5])
+                board.flip()
+                try:
+                    board.packet_numbered(1, HALVES._replace(low=2), bytearray(16))
+                    raise AssertionError('a packet in too little room')
+                except BufferTooShort:
+                    pass
+                first = board.ask_packet(HALVES).answer()
+                board.increments([3, 3])
+                board.flip()
+            for _ in range(2):
+                with BoardFile(path) as board:
+                    assert isinstance(board.open_ask, PacketAsk) and board.open_ask.number == 1
+                    assert board.open_ask.answer() == first._replace(again=True), board.open_ask.answer()
+                    assert sum(board.memory) == 2 and board.next_number == 2
+                    board.flip()
+            boardfile._SNAPSHOT_AFTER = usual
+            with BoardFile(path) as board:
+                assert board.open_ask.file() == first._replace(again=True)
+            with BoardFile(path) as board:
+                assert board.open_ask is None
+
+
+def before():
+    """A file of before there were packet asks, its state of ten words: it is gone on with, and the missing words are 0."""
+    ask = struct.pack('<HIBBHB', 1, 0, COUNTERS - 1, 0, 0, 1)
+    memory = struct.pack(f'<{2 * COUNTERS}I', *range(2 * COUNTERS))
+    new, answered = struct.pack('<10Q', 2 * COUNTERS, 1, *[0] * 8), struct.pack('<10Q', 2 * COUNTERS, 1, 1, 1, 0, COUNTERS - 1, 0, 0, 1, 77)
+    later = boardfile._record(b'M', ask) + boardfile._record(b'A', ask)
+    for state, under_way, records, total in ((answered, ask, b'', 77), (new, b'', later, 28), (new, ask, b'', 28)):
+        with tempfile.TemporaryDirectory() as name:
+            path = pathlib.Path(name) / 'board'
+            snapshot = boardfile._record(b'S', struct.pack('<I', 2 * COUNTERS) + memory + state + under_way)
+            path.write_bytes(b'PLAVOTESK board 1\n' + snapshot + records)
+            for _ in range(2):
+                with BoardFile(path, COUNTERS) as board:
+                    assert board.open_ask.answer().sum == total
+            with BoardFile(path) as board:
+                assert board.open_ask.file() == total and board.next_number == 2
+                board.flip()
+                packet = board.ask_packet(HALVES).answer()
+            with BoardFile(path) as board:
+                assert board.open_ask.file() == packet._replace(again=True) and packet.total == sum(range(COUNTERS, 2 * COUNTERS))
+
+
 died()
 cut_and_damaged()
 interrupted()
 forked()
 unknown()
+kept()
+before()

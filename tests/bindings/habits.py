@@ -8,9 +8,11 @@ import tempfile
 import threading
 
 import plavotesk
-from plavotesk import Message, Refusal, Window
+from plavotesk import Format, Item, Message, PacketInputs, Refusal, Window
 
 ALL = Window(0, 7, 0, 0, True)
+EIGHT = Item(0, 7, 0, 0, True, True, False, Format.INT24)
+PACKET = PacketInputs(1, [EIGHT], 0, 0, 59)
 
 
 def refused(number, call):
@@ -109,6 +111,41 @@ def numbers():
     raises(TypeError, 'buffer must be', lambda: plavotesk.packet_write(b'no bytearray', 1, b''))
 
 
+def packet_numbers():
+    """The same of a packet ask: numbers of all sizes, and items by their fields or by their 64 bits."""
+    board = plavotesk.Histogram(8)
+    for flags in (4, 300, 2 ** 80, -1):
+        refused(19, board.ask_packet(PACKET._replace(flags=flags)).answer)
+        assert board.open_ask is None
+    for level in (8, 300, 2 ** 80, -1):
+        refused(19, board.ask_packet(PACKET._replace(initial=level)).answer)
+    for second in (3600, 65536, 2 ** 80, -1):
+        refused(19, board.ask_packet(PACKET._replace(second=second)).answer)
+    for item in (EIGHT._replace(address=8), EIGHT._replace(address=2 ** 18), EIGHT._replace(address=2 ** 80), EIGHT._replace(address=-1),
+                 EIGHT._replace(xsize=256), EIGHT._replace(ysize=-1), EIGHT._replace(ystride=2 ** 16)):
+        refused(14, board.ask_packet(PACKET._replace(items=[EIGHT, item])).answer)
+    for items in ([EIGHT._replace(add=True)], [EIGHT, EIGHT._replace(add=True)], [1 << 23], [1 << 26], [1 << 29]):
+        refused(22, board.ask_packet(PACKET._replace(items=items)).answer)
+    for count in (65, 1000):
+        refused(23, board.ask_packet(PACKET._replace(items=[EIGHT] * count)).answer)
+    for number in (2, 65536, -1):
+        refused(17, lambda: board.packet_numbered(number, PACKET, bytearray(243)))
+    refused(3, lambda: board.packet_numbered(1, PACKET, bytearray(13)))
+    for inputs in (PACKET._replace(low=256), PACKET._replace(low=-1), PACKET._replace(items=[EIGHT._replace(format=4)]), PACKET._replace(items=[2 ** 64])):
+        raises(OverflowError, ' ', lambda: board.ask_packet(inputs))
+    for wrong in (1.0, '1', None):
+        raises(TypeError, 'xsize must be', lambda: board.ask_packet(PACKET._replace(items=[EIGHT._replace(xsize=wrong)])))
+        raises(TypeError, 'send must be', lambda: board.ask_packet(PACKET._replace(items=[EIGHT._replace(send=wrong)])))
+        raises(TypeError, 'item must be', lambda: board.ask_packet(PACKET._replace(items=[wrong])))
+        raises(TypeError, 'second must be', lambda: board.ask_packet(PACKET._replace(second=wrong)))
+    raises(TypeError, 'buffer must be', lambda: board.packet_numbered(1, PACKET, bytes(243)))
+    assert board.open_ask is None and board.next_number == 1
+    for word in (0, EIGHT.word, 2 ** 48 - 1 - 0xff800000, 2 ** 64 - 1 - 0xff800000):
+        assert Item.of(word).word == word and board.ask_packet(PACKET._replace(items=[word])).inputs.items == (word,)
+        board.open_ask.give_up()
+    assert [Item.of(word) for word in (1 << 23, 1 << 31, 2 ** 64 - 1)] == [None] * 3
+
+
 def logarithms():
     """A logarithm byte is answered as a run of counts, which what went in lies in; None is the word for a byte that no count gives."""
     assert [plavotesk.log8_counts(code) for code in bytes([0, 7, 8, 9, 61])] == [(0, 0), None, (1, 1), None, (99, 107)]
@@ -193,8 +230,75 @@ def dear_mistake():
     assert board.open_ask is ask
     ask.give_up()
     assert board.open_ask is None
+    board.increment(0)
+    board.flip()
+    with board.ask(ALL) as ask:
+        ask.give_up()
+    assert board.next_number == 4 and sum(board.memory) == 1
 
 
-for check in (threads, numbers, logarithms, buffers, iterators, copies, dear_mistake):
+def dear_packet():
+    """300 counts, a lost packet, particles since, the same lines again: nothing is lost in silence, and nothing is filed twice."""
+    board = plavotesk.Histogram(8)
+    board.increments([i % 8 for i in range(300)])
+    board.flip()
+    items = [EIGHT._replace(xsize=3), EIGHT._replace(address=4, xsize=3, format=Format.PACKED)]
+    packets = []
+
+    def lost():
+        with board.ask_packet(PacketInputs(1, items, 0, 0, 59)) as ask:
+            packets.append(ask.answer().packet)
+            raise TimeoutError
+
+    raises(TimeoutError, '', lost)
+    raises(plavotesk.AskStillOpen, 'packet ask 1', lost)
+    raises(plavotesk.AskStillOpen, 'packet ask 1', lambda: board.ask(ALL))
+    board.increments([0, 1, 2])
+    board.flip()
+    items.clear()
+    with board.open_ask as ask:
+        answer = ask.answer()
+        packets.append(answer.packet)
+        assert answer[1:] == (300, True) and packets[0] == packets[1]
+    assert board.open_ask is None and board.next_number == 2
+    # the packet is found by its checksum, an integer is the count, and a packed count is a band that what went in lies in
+    packet = next(plavotesk.packets(b'\xbe\xba\xca\xfe' + answer.packet))
+    assert (packet.place, packet.apid, packet.data[0]) == (4, 0x301, 4)
+    reading, _next = plavotesk.reading(packet.data, 32, drop=0)
+    assert plavotesk.int24_count(int.from_bytes(packet.data[1:4], 'big')) == 152 and reading.low <= 148 <= reading.high
+    with board.ask(ALL) as ask:
+        raises(plavotesk.AskStillOpen, 'ask 2', lambda: board.ask_packet(PACKET))
+        assert ask.answer().sum == 3
+    ask = board.ask_packet(PACKET)
+    assert board.ask_numbered(3, ALL) == (0, False)
+    refused(18, ask.answer)
+    assert board.ask_numbered(4, ALL) == (0, False)
+    refused(17, ask.answer)
+    assert board.open_ask is ask
+    ask.give_up()
+    assert board.ask_packet(PACKET._replace(items=(item for item in [EIGHT]))).file().total == 0
+    assert board.open_ask is None and board.next_number == 6
+    board.increment(0)
+    board.flip()
+    for inputs, number in ((PACKET, None), (PACKET._replace(flags=4), 19)):
+        with board.ask_packet(inputs) as ask:
+            refused(number, ask.answer) if number else ask.give_up()
+    assert board.open_ask is None and board.next_number == 6 and sum(board.memory) == 1
+    # one that was too large, tried once more after a flip, is open again until it is filed
+    board.increments([7] * 1024)
+    board.flip()
+    chain = [EIGHT._replace(xsize=0, ysize=255, address=7, clear=False, send=i == 63, add=i > 0) for i in range(64)]
+    ask = board.ask_packet(PACKET._replace(items=chain))
+    refused(12, ask.answer)
+    other = board.ask(ALL)
+    raises(plavotesk.AskStillOpen, 'ask 6', ask.answer)
+    other.give_up()
+    board.flip()
+    assert ask.answer()[1:] == (0, False) and board.open_ask is ask
+    ask.file()
+    assert ask.answer()[1:] == (0, True) and board.open_ask is None and board.next_number == 7
+
+
+for check in (threads, numbers, packet_numbers, logarithms, buffers, iterators, copies, dear_mistake, dear_packet):
     check()
     print(f'{check.__name__}: as they should be')

@@ -1,7 +1,8 @@
 //! Single histogram calls on memories and states that no call made: odd and foreign lengths, words at and above the full mark, windows
-//! that overlap themselves or do not fit, kept asks about 65535. Memory, state and lent places are compared.
+//! that overlap themselves or do not fit, kept asks of both kinds about 65535. Memory, state, lent places and buffers are compared.
 
-use crate::histogram::{Kept, State, Window};
+use crate::histogram::{Ask, Kept, State, Window};
+use crate::packet_asks::{changed, table};
 use crate::random::Random;
 use crate::raw::STATE_WORDS;
 use crate::scripts::Script;
@@ -33,15 +34,28 @@ fn one(tally: &mut Tally, random: &mut Random, words: usize) {
     let mut state = [0; STATE_WORDS];
     stored::opened(&mut state, &State { words: if other { random.below(1030) } else { words as u64 }, upper_active: false, kept: None });
     state[1] = random.below(3);
+    let (inputs, of_a_packet) = (table(random, n), random.below(2) == 0);
+    let ask = if of_a_packet && inputs.items.len() <= 64 { Ask::Packet(inputs.clone()) } else { Ask::window(&window) };
     if random.below(4) > 0 {
-        stored::asked(&mut state, &Kept::of(last, window, random.next() >> random.below(64)));
+        let (sum, length) = (random.next() >> random.below(64), random.below(244) as usize);
+        stored::asked(&mut state, &Kept { number: last as u64, ask, sum, bytes: random.bytes(length) });
     }
-    let mut script = Script::of(&memory, &state, (last, window));
-    match random.below(9) {
+    let mut script = Script::of(&memory, &state, last, window, inputs.clone());
+    match random.below(13) {
         6 | 7 => script.increments(tally, random),
         8 => script.next(tally, random),
         0 | 1 => script.increment(tally, random.below(n + 1) as u32),
         2 => script.flip(tally),
+        9..=12 => {
+            let number = last.wrapping_add(random.below(3) as u16);
+            let asked = match random.below(3) {
+                0 => inputs,
+                1 => changed(random, &inputs),
+                _ => table(random, n),
+            };
+            let room = random.below(300) as usize;
+            script.packet_of(tally, random, number, &asked, room);
+        }
         _ => {
             let (number, same) = (last.wrapping_add(random.below(3) as u16), random.below(2) == 0);
             let asked = if same { window } else { near(random, n) };

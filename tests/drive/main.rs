@@ -18,6 +18,8 @@ mod histogram;
 mod message;
 #[path = "../reference/packet.rs"]
 mod packet;
+#[path = "../reference/packet_ask.rs"]
+mod packet_ask;
 #[path = "../reference/random.rs"]
 mod random;
 #[path = "../../bindings/rust/src/raw.rs"]
@@ -28,6 +30,7 @@ mod counts;
 mod forged;
 mod lent;
 mod messages;
+mod packet_asks;
 mod packets;
 mod scripts;
 mod stored;
@@ -80,7 +83,7 @@ pub fn some(random: &mut Random, end: u64) -> Vec<u8> {
 fn main() {
     let given: Vec<String> = std::env::args().skip(1).collect();
     let [seed, family, cases] = &given[..] else {
-        eprintln!("usage: drive SEED packets|messages|codes|patterns|counts|forged|scripts CASES");
+        eprintln!("usage: drive SEED packets|messages|codes|patterns|counts|forged|scripts|packet_asks CASES");
         std::process::exit(2);
     };
     let mut random = Random::new(seed.parse().expect("the seed is a number"));
@@ -95,6 +98,7 @@ fn main() {
         "counts" => counts::drive(&mut random, cases, &mut tally),
         "forged" => forged::drive(&mut random, cases, &mut tally),
         "scripts" => scripts::drive(&mut random, cases, &mut tally),
+        "packet_asks" => packet_asks::drive(&mut random, cases, &mut tally),
         _ => panic!("no family is called {family}"),
     }
     let Tally { agreed, differed, .. } = &tally;

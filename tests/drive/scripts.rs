@@ -1,9 +1,12 @@
-//! Long scripts of histogram calls on one memory: new asks, repeats, asks out of turn, and now and then a memory or a state
-//! that somebody forged. After every call the whole memory, the whole state and every lent place are compared.
+//! Long scripts of histogram calls on one memory: new asks of both kinds, repeats, asks out of turn, and now and then a memory or a
+//! state that somebody forged. After every call the whole memory, the whole state, every lent place and the buffer are compared.
 
-use crate::histogram::{self, Asked, Window};
+use crate::histogram::{self, Ask, Asked, Window};
 use crate::lent::Lent;
+use crate::packet_ask::{self, Inputs};
+use crate::packet_asks::{changed, table};
 use crate::random::Random;
+use crate::raw::STATE_WORDS;
 use crate::{raw, stored, Tally};
 
 const FULL: u32 = 67_108_863;
@@ -123,12 +126,53 @@ fn ask_plain(board: &mut Board, number: u16, window: Window) -> Result<(u64, u8)
     })
 }
 
+/// A packet ask's number, the three lent places, which held something before, and the buffer.
+fn packet(board: &mut Board, number: u16, inputs: &Inputs, held: u64, mut buffer: Lent<u8>) -> (u8, u64, u64, u8, Lent<u8>) {
+    let (mut written, mut total, mut again) = (held, !held, held as u8);
+    let (memory, state, room) = (board.memory.part(), board.state.part(), buffer.part());
+    let refused = unsafe {
+        raw::plv_histogram_packet(
+            memory.as_mut_ptr(),
+            memory.len(),
+            state.as_mut_ptr(),
+            state.len(),
+            number,
+            inputs.low as u8,
+            inputs.items.as_ptr(),
+            inputs.items.len(),
+            inputs.flags as u8,
+            inputs.initial as u8,
+            inputs.second as u16,
+            room.as_mut_ptr(),
+            room.len(),
+            &mut written,
+            &mut total,
+            &mut again,
+        )
+    };
+    (refused, written, total, again, buffer)
+}
+
+fn packet_plain(board: &mut Board, number: u16, inputs: &Inputs, held: u64, mut buffer: Lent<u8>) -> (u8, u64, u64, u8, Lent<u8>) {
+    let answered = stored::state(board.state.part()).and_then(|mut state| {
+        let answered = packet_ask::ask(board.memory.part(), &mut state, number, inputs, buffer.part())?;
+        if !answered.again {
+            stored::asked(board.state.part(), &state.kept.unwrap());
+        }
+        Ok(answered)
+    });
+    match answered {
+        Ok(packet_ask::Answered { written, total, again }) => (0, written, total, again as u8, buffer),
+        Err(refused) => (refused, held, !held, held as u8, buffer),
+    }
+}
+
 fn number(answer: Result<(), u8>) -> u8 {
     answer.err().unwrap_or(0)
 }
 
 /// A window of which most lie in a page of n words.
-fn window(random: &mut Random, n: u64) -> Window {
+pub fn window(random: &mut Random, n: u64) -> Window {
     let small = |random: &mut Random, end: u64| random.below(end.clamp(1, 255) + 1) as u8;
     match random.below(12) {
         0 => Window {
@@ -159,21 +203,24 @@ fn forge(random: &mut Random, board: &mut Board) {
     };
     let part = board.state.part();
     if state && !part.is_empty() {
-        let at = random.below(part.len() as u64) as usize;
-        part[at] = word;
+        // half of them among the words that say what is kept and how much of it
+        let some = [0, 1, 2, 2, 3, 4, 8, 9, 10, 11, 12, 13, 14, 15, 79, 80][random.below(16) as usize];
+        let at = if random.below(2) == 0 { some } else { random.below(part.len() as u64) as usize };
+        part[at % part.len()] = word;
     } else if !board.memory.part().is_empty() {
         let at = random.below(board.memory.part().len() as u64) as usize;
         board.memory.part()[at] = word as u32;
     }
 }
 
-/// One memory in the hands of both programs, and the ask that was accepted last.
+/// One memory in the hands of both programs, the number that was accepted last, and the window and the packet that were.
 pub struct Script {
     proved: Board,
     plain: Board,
     words: u64,
-    last: (u16, Window),
-    next: u16,
+    last: u16,
+    window: Window,
+    inputs: Inputs,
 }
 
 impl Script {
@@ -181,19 +228,24 @@ impl Script {
     fn open(tally: &mut Tally, random: &mut Random, words: u64, room: u64) -> Script {
         let memory: Vec<u32> = (0..words).map(|_| random.next() as u32).collect();
         let state: Vec<u64> = (0..room).map(|_| random.next()).collect();
-        let mut script = Script::of(&memory, &state, (1, window(random, words / 2)));
+        let mut script = Script::of(&memory, &state, 0, window(random, words / 2), table(random, words / 2));
         let (proved, plain) = (&mut script.proved, &mut script.plain);
         let opened = (open(proved), number(open_plain(plain)));
         tally.answered("open", opened.0);
         tally.compare(|| format!("open {words} words, {room} words of state"), (opened.0, proved), (opened.1, plain));
-        script.next = 1;
         script
     }
 
-    /// Memory and state as they are, whoever made them, and an ask to repeat.
-    pub fn of(memory: &[u32], state: &[u64], last: (u16, Window)) -> Script {
+    /// Memory and state as they are, whoever made them, and asks of both kinds to repeat.
+    pub fn of(memory: &[u32], state: &[u64], last: u16, window: Window, inputs: Inputs) -> Script {
         let proved = Board { memory: Lent::new(memory, 7), state: Lent::new(state, 8) };
-        Script { plain: proved.clone(), proved, words: memory.len() as u64, last, next: last.0.wrapping_add(1) }
+        Script { plain: proved.clone(), proved, words: memory.len() as u64, last, window, inputs }
+    }
+
+    /// The words of the state, for somebody who changes what both have.
+    pub fn state(&mut self, change: impl Fn(&mut [u64])) {
+        change(self.plain.state.part());
+        self.proved = self.plain.clone();
     }
 
     /// Somebody changes what both have.
@@ -201,9 +253,17 @@ impl Script {
         forge(random, &mut self.plain);
         self.proved = self.plain.clone();
         if let Ok(Some(kept)) = stored::state(self.plain.state.part()).map(|state| state.kept) {
-            let (address, xsize, ysize, ystride) = (kept.address as u32, kept.xsize as u8, kept.ysize as u8, kept.ystride as u16);
-            self.last = (kept.number as u16, Window { address, xsize, ysize, ystride, clear: kept.clear });
-            self.next = self.last.0.wrapping_add(1);
+            self.last = kept.number as u16;
+            match kept.ask {
+                Ask::Window { address, xsize, ysize, ystride, clear } => {
+                    let (address, xsize, ysize, ystride) = (address as u32, xsize as u8, ysize as u8, ystride as u16);
+                    self.window = Window { address, xsize, ysize, ystride, clear };
+                }
+                Ask::Packet(Inputs { low, items, flags, initial, second }) => {
+                    let (low, flags, initial, second) = (low as u8 as u64, flags as u8 as u64, initial as u8 as u64, second as u16 as u64);
+                    self.inputs = Inputs { low, items, flags, initial, second };
+                }
+            }
         }
     }
 
@@ -247,14 +307,14 @@ impl Script {
     }
 
     /// An ask: new, the last once more, or one that is out of turn or of another window.
-    fn ask(&mut self, tally: &mut Tally, random: &mut Random) {
+    pub fn ask(&mut self, tally: &mut Tally, random: &mut Random) {
         let fresh = window(random, self.words / 2);
         let (number, window) = match random.below(12) {
-            0..=5 => (self.next, fresh),
-            6..=8 => self.last,
+            0..=5 => (self.last.wrapping_add(1), fresh),
+            6..=8 => (self.last, self.window),
             9 => (random.next() as u16, fresh),
-            10 => (self.last.0, fresh),
-            _ => (self.next.wrapping_sub(random.below(4) as u16), self.last.1),
+            10 => (self.last, fresh),
+            _ => (self.last.wrapping_sub(random.below(4) as u16).wrapping_add(1), self.window),
         };
         self.ask_of(tally, random, number, window);
     }
@@ -267,7 +327,7 @@ impl Script {
         let got = ask(&mut self.proved, number, &window, clear, held);
         let wanted = match ask_plain(&mut self.plain, number, window) {
             Ok((sum, again)) => {
-                (self.last, self.next) = ((number, window), number.wrapping_add(1));
+                (self.last, self.window) = (number, window);
                 (0, sum, again)
             }
             Err(refused) => (refused, held, held as u8),
@@ -276,6 +336,37 @@ impl Script {
         let Window { address, xsize, ysize, ystride, .. } = window;
         let case = || format!("ask {number} of {address} {xsize} {ysize} {ystride} {clear} on {before:?}");
         tally.compare(case, (got, &self.proved), (wanted, &self.plain));
+    }
+
+    /// A packet ask: new, the last once more, or one that is out of turn or of other inputs, into a buffer of any length.
+    pub fn packet(&mut self, tally: &mut Tally, random: &mut Random) {
+        let fresh = table(random, self.words / 2);
+        let (number, inputs) = match random.below(12) {
+            0..=5 => (self.last.wrapping_add(1), fresh),
+            6..=8 => (self.last, self.inputs.clone()),
+            9 => (random.next() as u16, fresh),
+            10 => (self.last, changed(random, &self.inputs)),
+            _ => (self.last.wrapping_sub(random.below(4) as u16).wrapping_add(1), self.inputs.clone()),
+        };
+        let room = if random.below(4) == 0 { random.below(40) } else { 243 + random.below(3) };
+        self.packet_of(tally, random, number, &inputs, room as usize);
+    }
+
+    /// A packet ask of this number and these inputs, into a buffer of so many bytes; the number that it must answer, and the bytes.
+    pub fn packet_of(&mut self, tally: &mut Tally, random: &mut Random, number: u16, inputs: &Inputs, room: usize) -> (u8, u64) {
+        let before = self.plain.clone();
+        let state = stored::state(self.plain.state.part());
+        let repeat = state.is_ok_and(|state| histogram::again(&state, number, &Ask::Packet(inputs.clone())) == Ok(true));
+        let (held, buffer) = (random.next(), Lent::new(&random.bytes(room), 9));
+        let got = packet(&mut self.proved, number, inputs, held, buffer.clone());
+        let wanted = packet_plain(&mut self.plain, number, inputs, held, buffer);
+        if wanted.0 == 0 {
+            (self.last, self.inputs) = (number, inputs.clone());
+        }
+        tally.answered(if repeat { "packet again" } else { "packet" }, got.0);
+        let answer = (wanted.0, wanted.1);
+        tally.compare(|| format!("packet {number} of {inputs:x?} into {room} bytes on {before:?}"), (got, &self.proved), (wanted, &self.plain));
+        answer
     }
 }
 
@@ -286,16 +377,18 @@ fn play(tally: &mut Tally, random: &mut Random, calls: u64) {
         1 => 2 * random.below(600) + random.below(9) / 8,
         _ => 2 + 2 * random.below(30),
     };
-    let room = if random.below(30) == 0 { random.below(14) } else { 10 + random.below(2) };
+    let enough = STATE_WORDS as u64;
+    let room = if random.below(30) == 0 { random.below(enough + 4) } else { enough + random.below(2) };
     let mut script = Script::open(tally, random, words, room);
     let forging = random.below(3) == 0;
     for _ in 0..calls {
         if forging && random.below(25) == 0 {
             script.forge(random);
         }
-        match random.below(12) {
+        match random.below(15) {
             10 => script.increments(tally, random),
             11 => script.next(tally, random),
+            12..=14 => script.packet(tally, random),
             0..=4 => script.increment(tally, random.below(words / 2 + 1) as u32),
             5 => script.flip(tally),
             _ => script.ask(tally, random),
@@ -305,11 +398,12 @@ fn play(tally: &mut Tally, random: &mut Random, calls: u64) {
 
 pub fn drive(random: &mut Random, cases: u64, tally: &mut Tally) {
     for words in (0..6).chain(524_285..524_293) {
-        let mut script = Script::open(tally, random, words, 10);
+        let mut script = Script::open(tally, random, words, STATE_WORDS as u64);
         script.increment(tally, (words / 2) as u32);
         script.increment(tally, (words / 2).saturating_sub(1) as u32);
         script.flip(tally);
         script.ask(tally, random);
+        script.packet(tally, random);
     }
     for case in 0..cases {
         play(tally, random, if case % 20 == 0 { 1500 } else { 150 });

@@ -1,8 +1,10 @@
-//! Document 01, "Histogram memory": increments, flips and numbered asks.
+//! Document 01, "Histogram memory": increments, flips and numbered asks; packets are asked in `packet_ask`, in the same row of numbers.
+
+use crate::packet_ask::Inputs;
 
 const FULL: u32 = 67_108_863;
 
-#[derive(Clone, Copy, PartialEq)]
+#[derive(Clone, Copy, Debug, PartialEq)]
 pub struct Window {
     pub address: u32,
     pub xsize: u8,
@@ -11,26 +13,30 @@ pub struct Window {
     pub clear: bool,
 }
 
-/// The last accepted ask: its number, window and sum. Numbers are wide: whoever holds the state could have written any.
-#[derive(Clone, Copy, PartialEq)]
-pub struct Kept {
-    pub number: u64,
-    pub address: u64,
-    pub xsize: u64,
-    pub ysize: u64,
-    pub ystride: u64,
-    pub clear: bool,
-    pub sum: u64,
+/// What is asked under a number: a window's sum, or a packet. Numbers are wide: whoever holds the state could have written any.
+#[derive(Clone, PartialEq)]
+pub enum Ask {
+    Window { address: u64, xsize: u64, ysize: u64, ystride: u64, clear: bool },
+    Packet(Inputs),
 }
 
-impl Kept {
-    pub fn of(number: u16, w: Window, sum: u64) -> Kept {
+impl Ask {
+    pub fn window(w: &Window) -> Ask {
         let (address, xsize, ysize, ystride) = (w.address as u64, w.xsize as u64, w.ysize as u64, w.ystride as u64);
-        Kept { number: number as u64, address, xsize, ysize, ystride, clear: w.clear, sum }
+        Ask::Window { address, xsize, ysize, ystride, clear: w.clear }
     }
 }
 
-#[derive(Clone, Copy)]
+/// The last accepted ask: its number, what was asked, its sum or its total, and a packet's bytes.
+#[derive(Clone)]
+pub struct Kept {
+    pub number: u64,
+    pub ask: Ask,
+    pub sum: u64,
+    pub bytes: Vec<u8>,
+}
+
+#[derive(Clone)]
 pub struct State {
     pub words: u64,
     pub upper_active: bool,
@@ -51,7 +57,7 @@ pub fn open(memory: &mut [u32]) -> Result<State, u8> {
     Ok(State { words: words as u64, upper_active: false, kept: None })
 }
 
-fn fits(memory: &[u32], state: &State) -> Result<usize, u8> {
+pub fn fits(memory: &[u32], state: &State) -> Result<usize, u8> {
     let words = memory.len();
     if words % 2 == 1 || !(2..=524_288).contains(&words) || words as u64 != state.words {
         return Err(13);
@@ -89,7 +95,7 @@ pub fn increments(memory: &mut [u32], state: &State, addresses: &[u32]) -> Resul
 
 /// The number of the next new ask; none follows a number that no ask can bear.
 pub fn next(state: &State) -> Result<u16, u8> {
-    match state.kept.map(|kept| kept.number) {
+    match state.kept.as_ref().map(|kept| kept.number) {
         None => Ok(1),
         Some(number @ 0..=65_535) => Ok((number as u16).wrapping_add(1)),
         Some(_) => Err(13),
@@ -113,37 +119,54 @@ pub fn cells(window: &Window) -> Vec<u64> {
     all
 }
 
-pub fn ask(memory: &mut [u32], state: &mut State, number: u16, window: Window) -> Result<Asked, u8> {
-    let n = fits(memory, state)?;
-    if let Some(kept) = state.kept {
-        if number as u64 == kept.number {
-            return if kept == Kept::of(number, window, kept.sum) { Ok(Asked::Again(kept.sum)) } else { Err(18) };
-        }
-    }
-    let next = match state.kept {
-        None => 1,
-        Some(kept) if kept.number == 65_535 => 0,
-        Some(kept) => kept.number.saturating_add(1),
-    };
-    if number as u64 != next {
-        return Err(17);
-    }
-    let visited = cells(&window);
-    if *visited.last().unwrap() >= n as u64 {
+/// The page that is asked.
+pub fn idle<'a>(memory: &'a mut [u32], state: &State) -> &'a mut [u32] {
+    let (lower, upper) = memory.split_at_mut(memory.len() / 2);
+    if state.upper_active { lower } else { upper }
+}
+
+/// A window's sum. "Each visit adds what the word holds then; a clearing ask sets it to 0 at once."
+pub fn walk(page: &mut [u32], window: &Window) -> Result<u64, u8> {
+    let visited = cells(window);
+    if *visited.last().unwrap() >= page.len() as u64 {
         return Err(14);
     }
-    let idle = if state.upper_active { 0 } else { n };
-    if visited.iter().any(|&cell| memory[idle + cell as usize] > FULL) {
+    if visited.iter().any(|&cell| page[cell as usize] > FULL) {
         return Err(16);
     }
     let mut sum = 0;
     for cell in visited {
-        let word = &mut memory[idle + cell as usize];
+        let word = &mut page[cell as usize];
         sum += *word as u64;
         if window.clear {
             *word = 0;
         }
     }
-    state.kept = Some(Kept::of(number, window, sum));
+    Ok(sum)
+}
+
+/// Whether an ask is the last one once more, all of it the same; else it must bear the next number. 18, 17.
+pub fn again(state: &State, number: u16, ask: &Ask) -> Result<bool, u8> {
+    if let Some(kept) = &state.kept {
+        if number as u64 == kept.number {
+            return if kept.ask == *ask { Ok(true) } else { Err(18) };
+        }
+    }
+    let next = match &state.kept {
+        None => 1,
+        Some(kept) if kept.number == 65_535 => 0,
+        Some(kept) => kept.number.saturating_add(1),
+    };
+    if number as u64 == next { Ok(false) } else { Err(17) }
+}
+
+pub fn ask(memory: &mut [u32], state: &mut State, number: u16, window: Window) -> Result<Asked, u8> {
+    fits(memory, state)?;
+    let asked = Ask::window(&window);
+    if again(state, number, &asked)? {
+        return Ok(Asked::Again(state.kept.as_ref().unwrap().sum));
+    }
+    let sum = walk(idle(memory, state), &window)?;
+    state.kept = Some(Kept { number: number as u64, ask: asked, sum, bytes: Vec::new() });
     Ok(Asked::New(sum))
 }
