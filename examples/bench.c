@@ -1,4 +1,5 @@
-/* A bench in C: a board is opened, fed, flipped and asked over a link that times out, and the count sheet is right. */
+/* A bench in C: a board is opened, fed, flipped and asked over a link that times out, by windows and by a packet, and the count sheet
+ * is right. */
 #include <stdbool.h>
 #include <stdio.h>
 #include <stdlib.h>
@@ -12,13 +13,6 @@ struct board {
     uint64_t state[PLV_STATE_WORDS];
 };
 
-/* What comes back over the link. */
-struct answer {
-    bool came;
-    uint8_t refused, again;
-    uint64_t sum;
-};
-
 /* Feeds the board a particle that hits a counter; whether it was counted. */
 static bool feed(struct board *board, uint32_t counter) {
     uint8_t refused = plv_histogram_increment(board->memory, 2 * COUNTERS, board->state, PLV_STATE_WORDS, counter);
@@ -28,33 +22,65 @@ static bool feed(struct board *board, uint32_t counter) {
     return refused == PLV_ACCEPTED;
 }
 
-/* One clearing ask of sixteen counters over the link. The board answers, but the first answer to every odd ask is lost. */
-static struct answer over_the_link(struct board *board, uint16_t number, uint32_t first, int tried) {
-    struct answer answer = {0};
-    answer.refused = plv_histogram_ask(board->memory, 2 * COUNTERS, board->state, PLV_STATE_WORDS, number, first, 15, 0, 0, 1,
-                                       &answer.sum, &answer.again);
-    answer.came = number % 2 == 0 || tried > 0;
-    return answer;
-}
-
-/* Draws a number for an ask, asks until an answer comes, always under that number, and gives the sum to file. */
-static uint64_t ask(struct board *board, uint32_t first) {
+/* The number of a new ask. It is drawn once, and every try of the ask bears it. */
+static uint16_t new_number(const struct board *board) {
     uint16_t number = 0;
     if (plv_histogram_next(board->state, PLV_STATE_WORDS, &number) != PLV_ACCEPTED) {
         exit(1);
     }
-    for (int tried = 0;; tried++) {
-        struct answer answer = over_the_link(board, number, first, tried);
-        if (!answer.came) {
-            printf("ask %u: timed out\n", (unsigned)number);
-            continue;
-        }
-        if (answer.refused != PLV_ACCEPTED) {
-            printf("ask %u: refused %u\n", (unsigned)number, (unsigned)answer.refused);
+    return number;
+}
+
+/* Whether an answer comes over the link. The board answered, but the first answer to every odd ask is lost. */
+static bool came(uint16_t number, int tried, uint8_t refused) {
+    if (number % 2 == 1 && tried == 0) {
+        printf("ask %u: timed out\n", (unsigned)number);
+        return false;
+    }
+    if (refused != PLV_ACCEPTED) {
+        printf("ask %u: refused %u\n", (unsigned)number, (unsigned)refused);
+        exit(1);
+    }
+    return true;
+}
+
+/* Asks for the sum of sixteen counters until an answer comes, and gives it to file. */
+static uint64_t ask(struct board *board, uint32_t first) {
+    uint16_t number = new_number(board);
+    uint64_t sum = 0;
+    uint8_t again = 0, refused;
+    int tried = 0;
+    do {
+        refused = plv_histogram_ask(board->memory, 2 * COUNTERS, board->state, PLV_STATE_WORDS, number, first, 15, 0, 0, 1, &sum, &again);
+    } while (!came(number, tried++, refused));
+    printf("ask %u: %llu, %s\n", (unsigned)number, (unsigned long long)sum, again ? "again" : "new");
+    return sum;
+}
+
+/* Asks for a packet with the counts of two times sixteen counters, three bytes each after one byte, and gives them to file. */
+static void ask_packet(struct board *board, uint32_t first, uint64_t counts[2]) {
+    const uint64_t items[2] = {plv_item(first, 15, 0, 0, 1, 1, 0, PLV_INT24), plv_item(first + 16, 15, 0, 0, 1, 1, 0, PLV_INT24)};
+    uint16_t number = new_number(board);
+    uint8_t packet[PLV_HISTOGRAM_PACKET_BYTES] = {0}, again = 0, refused;
+    uint64_t written = 0, total = 0, place = 0, skipped = 0, start = 0, length = 0;
+    int tried = 0;
+    do {
+        refused = plv_histogram_packet(board->memory, 2 * COUNTERS, board->state, PLV_STATE_WORDS, number, 1, items, 2, 0, 0, 59, packet,
+                                       sizeof packet, &written, &total, &again);
+    } while (!came(number, tried++, refused));
+    printf("ask %u: a packet of %llu bytes, %llu in all, %s\n", (unsigned)number, (unsigned long long)written, (unsigned long long)total,
+           again ? "again" : "new");
+    if (plv_packet_find(packet, written, &place, &skipped) != PLV_ACCEPTED) {
+        exit(1);
+    }
+    plv_packet_payload(packet, written, place, &start, &length);
+    for (uint64_t i = 0; i < 2 && 3 * i + 3 < length; i++) {
+        const uint8_t *code = packet + start + 1 + 3 * i;
+        uint32_t count = 0;
+        if (plv_int24_count((uint32_t)code[0] << 16 | (uint32_t)code[1] << 8 | code[2], &count) != PLV_ACCEPTED) {
             exit(1);
         }
-        printf("ask %u: %llu, %s\n", (unsigned)number, (unsigned long long)answer.sum, answer.again ? "again" : "new");
-        return answer.sum;
+        counts[i] = count;
     }
 }
 
@@ -74,13 +100,13 @@ int main(void) {
     if (plv_histogram_flip(board.memory, 2 * COUNTERS, board.state, PLV_STATE_WORDS) != PLV_ACCEPTED) {
         return 1;
     }
-    for (int i = 0; i < WINDOWS; i++) {
-        sheet[i] = ask(&board, (uint32_t)(16 * i));
-        filed += sheet[i];
-    }
+    sheet[0] = ask(&board, 0);
+    sheet[1] = ask(&board, 16);
+    ask_packet(&board, 32, sheet + 2);
     printf("count sheet\n");
     for (int i = 0; i < WINDOWS; i++) {
         printf("  counters %d to %d: %llu\n", 16 * i, 16 * i + 15, (unsigned long long)sheet[i]);
+        filed += sheet[i];
     }
     printf("  total: %llu\n", (unsigned long long)filed);
     printf(filed == counted ? "every count is filed once\n" : "THE SHEET IS WRONG\n");

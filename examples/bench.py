@@ -1,7 +1,9 @@
-"""A bench in Python: a board is opened, fed, flipped and asked over a link that times out, and the count sheet is right."""
+"""A bench in Python: a board is opened, fed, flipped and asked over a link that times out, by windows and by a packet, and the count sheet
+is right."""
 import sys
 
 import plavotesk
+from plavotesk import Format, Item, PacketInputs, Window
 
 COUNTERS = 64
 PARTICLES = 300
@@ -24,15 +26,31 @@ def over_the_link(ask, tried):
     return answer if ask.number % 2 == 0 or tried > 0 else None
 
 
+def until_it_comes(ask):
+    """Tries an ask until an answer comes."""
+    tried = 0
+    while (answer := over_the_link(ask, tried)) is None:
+        print(f'ask {ask.number}: timed out')
+        tried += 1
+    return answer
+
+
 def asked(board, window):
-    """Makes an ask, tries it until an answer comes, and gives the sum to file."""
+    """Asks for the sum of a window, and gives it to file."""
     with board.ask(window) as ask:
-        tried = 0
-        while (answer := over_the_link(ask, tried)) is None:
-            print(f'ask {ask.number}: timed out')
-            tried += 1
+        answer = until_it_comes(ask)
         print(f'ask {ask.number}: {answer.sum}, {"again" if answer.again else "new"}')
         return answer.sum
+
+
+def packet_asked(board, windows):
+    """Asks for a packet with the counts of windows, three bytes each after one byte, and gives them to file."""
+    items = [Item(*window, send=True, add=False, format=Format.INT24) for window in windows]
+    with board.ask_packet(PacketInputs(low=1, items=items, flags=0, initial=0, second=59)) as ask:
+        answer = until_it_comes(ask)
+        print(f'ask {ask.number}: a packet of {len(answer.packet)} bytes, {answer.total} in all, {"again" if answer.again else "new"}')
+        packet = next(plavotesk.packets(answer.packet))
+        return [plavotesk.int24_count(int.from_bytes(packet.data[i:i + 3], 'big')) for i in range(1, len(packet.data), 3)]
 
 
 def main():
@@ -42,7 +60,8 @@ def main():
     counted += feed(board, COUNTERS)
     print(f'{PARTICLES + 1} particles fed, {counted} counted')
     board.flip()
-    sheet = [asked(board, plavotesk.Window(16 * i, 15, 0, 0, True)) for i in range(WINDOWS)]
+    windows = [Window(16 * i, 15, 0, 0, True) for i in range(WINDOWS)]
+    sheet = [asked(board, window) for window in windows[:2]] + packet_asked(board, windows[2:])
     print('count sheet')
     for i, filed in enumerate(sheet):
         print(f'  counters {16 * i} to {16 * i + 15}: {filed}')
