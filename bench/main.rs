@@ -8,7 +8,7 @@ mod plain;
 #[allow(dead_code)]
 mod raw;
 
-use plain::{Histogram, Window};
+use plain::{Histogram, Inputs, Window};
 use std::hint::black_box;
 use std::time::{Duration, Instant};
 
@@ -191,6 +191,32 @@ impl Board {
             )
         };
         if refused == 0 { Ok((sum, again == 1)) } else { Err(refused) }
+    }
+
+    fn packet(&mut self, number: u16, i: Inputs, buffer: &mut [u8]) -> Result<(usize, u64, bool), u8> {
+        let (mut written, mut total, mut again) = (0, 0, 0);
+        let (memory, state) = (&mut self.memory, &mut self.state);
+        let refused = unsafe {
+            raw::plv_histogram_packet(
+                memory.as_mut_ptr(),
+                memory.len(),
+                state.as_mut_ptr(),
+                state.len(),
+                number,
+                i.low,
+                i.items.as_ptr(),
+                i.items.len(),
+                i.flags,
+                i.initial,
+                i.second,
+                buffer.as_mut_ptr(),
+                buffer.len(),
+                &mut written,
+                &mut total,
+                &mut again,
+            )
+        };
+        if refused == 0 { Ok((written as usize, total, again == 1)) } else { Err(refused) }
     }
 }
 
@@ -432,6 +458,71 @@ fn asks() {
     row("open 524,288 words", || board.clear_all(), || histogram.clear_all());
 }
 
+/// Items over windows of four cells, or of 65,536: in turn they clear a part of the page where nothing counts any more, and keep another that
+/// holds counts. Sent in all four formats, one after the other.
+fn items(count: u64, large: bool) -> Vec<u64> {
+    let cells = if large { 1 << 48 | 255 << 40 | 255 << 32 } else { 3 << 48 | 1 << 40 | 1 << 32 };
+    let item = |i: u64| cells | (1 - i % 2) << 22 | 1 << 21 | (i % 4) << 18 | (i % 2 * 131_072 + if large { 1000 * i } else { 16 * i });
+    (0..count).map(item).collect()
+}
+
+/// Both programs with the same counts in the later half of the page that is asked, and a full counter at its end.
+fn counted() -> (Board, Histogram) {
+    let (mut board, mut histogram) = (Board::open(524_288), Histogram::open(524_288));
+    for memory in [&mut board.memory, &mut histogram.memory] {
+        memory[393_216..].fill(5);
+        memory[524_287] = plain::LARGEST as u32;
+    }
+    (board, histogram)
+}
+
+fn packet_asks() {
+    let (mut first, mut second) = ([0; raw::PACKET_BYTES], [0; raw::PACKET_BYTES]);
+    for (name, large) in [("4 cells", false), ("65,536 cells", true)] {
+        for count in [1, 16, 64] {
+            let (mut board, mut histogram) = counted();
+            let items = items(count, large);
+            let inputs = Inputs { low: 1, items: &items, flags: 2, initial: 5, second: 59 };
+            assert_eq!(board.packet(1, inputs, &mut first), histogram.packet(1, inputs, &mut second));
+            assert_eq!(first, second);
+            let (mut number, mut other) = (1u16, 1u16);
+            row(
+                &format!("packet: {count} item{} of {name}", if count == 1 { "" } else { "s" }),
+                || {
+                    number = number.wrapping_add(1);
+                    black_box(board.packet(black_box(number), black_box(inputs), &mut first)).unwrap();
+                },
+                || {
+                    other = other.wrapping_add(1);
+                    black_box(histogram.packet(black_box(other), black_box(inputs), &mut second)).unwrap();
+                },
+            );
+        }
+        // the last item visits the full counter 256 times, which is too large to send: what 63 others cleared is there again
+        let (mut board, mut histogram) = counted();
+        let spoiled: Vec<u64> = items(63, large).into_iter().chain([255 << 40 | 1 << 21 | 0x3ffff]).collect();
+        let inputs = Inputs { low: 1, items: &spoiled, flags: 2, initial: 5, second: 59 };
+        row(
+            &format!("packet refused at its last item: 64 items of {name}"),
+            || assert_eq!(black_box(board.packet(black_box(1), black_box(inputs), &mut first)), Err(12)),
+            || assert_eq!(black_box(histogram.packet(black_box(1), black_box(inputs), &mut second)), Err(12)),
+        );
+        assert_eq!(board.memory, histogram.memory);
+    }
+    for count in [1, 16, 64] {
+        let (mut board, mut histogram) = counted();
+        let items = items(count, false);
+        let inputs = Inputs { low: 1, items: &items, flags: 2, initial: 5, second: 59 };
+        assert_eq!(board.packet(1, inputs, &mut first), histogram.packet(1, inputs, &mut second));
+        row(
+            &format!("1,000 repeats of a packet of {count} item{}", if count == 1 { "" } else { "s" }),
+            || (0..1000).for_each(|_| assert!(board.packet(black_box(1), black_box(inputs), &mut first).unwrap().2)),
+            || (0..1000).for_each(|_| assert!(histogram.packet(black_box(1), black_box(inputs), &mut second).unwrap().2)),
+        );
+        assert_eq!(first, second);
+    }
+}
+
 /// The nanoseconds of one piece of work.
 fn time(mut work: impl FnMut()) -> f64 {
     let count = repeats(&mut work);
@@ -457,6 +548,16 @@ fn growth(random: &mut Random) {
         time(|| {
             number = number.wrapping_add(1);
             black_box(board.ask(number, window(0, 255, (size / 256 - 1) as u8, 1, true))).unwrap();
+        })
+    });
+    grows("packet, 4 cells an item", "item", [1, 4, 16, 64], |size| {
+        let (items, mut buffer) = (items(size as u64, false), [0; raw::PACKET_BYTES]);
+        let inputs = Inputs { low: 1, items: &items, flags: 2, initial: 5, second: 59 };
+        let (mut board, _) = counted();
+        let mut number = 0u16;
+        time(|| {
+            number = number.wrapping_add(1);
+            black_box(board.packet(number, black_box(inputs), &mut buffer)).unwrap();
         })
     });
     grows("unpack, middle numbers", "code", [100, 1000, 10_000, 100_000], |size| {
@@ -488,4 +589,5 @@ fn main() {
     codes(&mut random);
     logarithms(&mut random);
     asks();
+    packet_asks();
 }

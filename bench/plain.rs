@@ -4,6 +4,7 @@
 const MARK: [u8; 4] = [0xbe, 0xba, 0xca, 0xfe];
 const SIZES: [usize; 4] = [0, 2, 4, 8];
 const FULL: u32 = 67_108_863;
+const LENGTHS: [u16; 8] = [1, 5, 10, 30, 60, 300, 600, 3600];
 /// The largest number that is packed, either way.
 pub const LARGEST: u64 = 67_108_863;
 /// The most ones of a code, which stand before two zeros.
@@ -252,16 +253,178 @@ pub struct Window {
     pub clear: bool,
 }
 
+/// Walks a window of a page: its sum. Each row is shown before it is cleared.
+fn walk(page: &mut [u32], window: Window, mut shown: impl FnMut(usize, &[u32])) -> Result<u64, u8> {
+    let Window { address, xsize, ysize, ystride, clear } = window;
+    let step = xsize as usize + ystride as usize;
+    let rows = (0..=ysize as usize).map(|r| address as usize + r * step);
+    if address as usize + ysize as usize * step + xsize as usize >= page.len() {
+        return Err(14);
+    }
+    if rows.clone().any(|row| page[row..=row + xsize as usize].iter().any(|&word| word > FULL)) {
+        return Err(16);
+    }
+    let mut sum = 0;
+    for row in rows {
+        let words = &mut page[row..=row + xsize as usize];
+        shown(row, words);
+        for word in words {
+            sum += *word as u64;
+            if clear {
+                *word = 0;
+            }
+        }
+    }
+    Ok(sum)
+}
+
+/// What was cleared, row by row, so that it can be put back.
+#[derive(Default)]
+struct Cleared {
+    rows: Vec<(usize, usize)>,
+    words: Vec<u32>,
+}
+
+impl Cleared {
+    fn note(&mut self, row: usize, words: &[u32]) {
+        self.rows.push((row, self.words.len()));
+        self.words.extend_from_slice(words);
+    }
+
+    /// The last row first: where rows overlap, the first had what was there.
+    fn put_back(&mut self, page: &mut [u32]) {
+        for (row, from) in self.rows.drain(..).rev() {
+            let words = &self.words[from..];
+            page[row..row + words.len()].copy_from_slice(words);
+            self.words.truncate(from);
+        }
+    }
+}
+
+/// Bits one after the other, from the top of each byte.
+struct Bits {
+    bytes: [u8; 240],
+    length: usize,
+    held: u64,
+    count: u32,
+}
+
+impl Bits {
+    fn push(&mut self, bits: u64, count: u32) {
+        self.held = self.held << count | bits;
+        self.count += count;
+        while self.count >= 8 {
+            self.count -= 8;
+            self.bytes[self.length] = (self.held >> self.count) as u8;
+            self.length += 1;
+        }
+    }
+
+    /// The bytes, the last one filled with zeros.
+    fn whole(&mut self) -> &[u8] {
+        if self.count > 0 {
+            self.push(0, 8 - self.count);
+        }
+        &self.bytes[..self.length]
+    }
+}
+
+fn float16_code(count: u64) -> Result<u64, u8> {
+    match count {
+        0..=4095 => Ok(count),
+        4096..=134_217_727 => {
+            let e = 52 - count.leading_zeros() as u64;
+            Ok(e << 12 | count >> (e - 1) & 4095)
+        }
+        _ => Err(12),
+    }
+}
+
+/// A result's bits in a format, right-aligned, and how many they are.
+fn sent(format: u64, result: u64) -> Result<(u64, u32), u8> {
+    match format {
+        0 => Ok((float16_code(result)?, 16)),
+        1 => Ok((log8_code(result)? as u64, 8)),
+        2 => if result <= 16_777_215 { Ok((result, 24)) } else { Err(12) },
+        _ => if result <= LARGEST { code(result as i32, 0) } else { Err(12) },
+    }
+}
+
+/// The bits of an item beside its window: cleared, sent, with the result before it; and those that must be 0.
+const CLEAR: u64 = 1 << 22;
+const SEND: u64 = 1 << 21;
+const ADD: u64 = 1 << 20;
+const FORBIDDEN: u64 = 0x1ff << 23;
+
+/// What a packet is asked with, beside its number.
+#[derive(Clone, Copy, PartialEq)]
+pub struct Inputs<'a> {
+    pub low: u8,
+    pub items: &'a [u64],
+    pub flags: u8,
+    pub initial: u8,
+    pub second: u16,
+}
+
+fn forbidden(items: &[u64]) -> bool {
+    items.first().is_some_and(|item| item & ADD != 0)
+        || items.iter().any(|item| item & FORBIDDEN != 0)
+        || items.windows(2).any(|two| two[0] & SEND != 0 && two[1] & ADD != 0)
+}
+
+/// Runs the items over a page and writes their packet: its bytes, and what was cleared in all.
+fn build(page: &mut [u32], inputs: Inputs, buffer: &mut [u8], cleared: &mut Cleared) -> Result<(usize, u64), u8> {
+    let ending = (0..8).rev().find(|&level| (inputs.second + 1) % LENGTHS[level] == 0).unwrap_or(0);
+    let mut data = Bits { bytes: [0; 240], length: 0, held: 0, count: 0 };
+    data.push((inputs.flags as u64) << 6 | (inputs.initial as u64) << 3 | ending as u64, 8);
+    let (mut total, mut result) = (0, 0);
+    for &item in inputs.items {
+        let clear = item & CLEAR != 0;
+        let (xsize, ysize, ystride) = ((item >> 32) as u8, (item >> 40) as u8, (item >> 48) as u16);
+        let window = Window { address: item as u32 & 0x3ffff, xsize, ysize, ystride, clear };
+        let sum = if clear { walk(page, window, |row, words| cleared.note(row, words))? } else { walk(page, window, |_, _| {})? };
+        result = if item & ADD != 0 { result + sum } else { sum };
+        if clear {
+            total += sum;
+        }
+        if item & SEND != 0 {
+            let (bits, count) = sent(item >> 18 & 3, result)?;
+            data.push(bits, count);
+        }
+    }
+    Ok((write_packet(buffer, 0x0300 | inputs.low as u16, data.whole())?, total))
+}
+
+/// The last ask: of a window, or of the packet that is kept.
+#[derive(Clone, Copy, PartialEq)]
+pub enum Asked {
+    Window(Window),
+    Packet,
+}
+
+/// The packet that was asked last: its inputs and its bytes.
+#[derive(Default)]
+struct Packet {
+    low: u8,
+    items: Vec<u64>,
+    flags: u8,
+    initial: u8,
+    second: u16,
+    bytes: Vec<u8>,
+}
+
 /// Histogram memory: two pages, the active one, and the last ask.
 pub struct Histogram {
     pub memory: Vec<u32>,
     pub upper: bool,
-    pub kept: Option<(u16, Window, u64)>,
+    pub kept: Option<(u16, Asked, u64)>,
+    packet: Packet,
+    cleared: Cleared,
 }
 
 impl Histogram {
     pub fn open(words: usize) -> Histogram {
-        Histogram { memory: vec![0; words], upper: false, kept: None }
+        Histogram { memory: vec![0; words], upper: false, kept: None, packet: Packet::default(), cleared: Cleared::default() }
     }
 
     #[cfg_attr(called, inline(never))]
@@ -298,31 +461,60 @@ impl Histogram {
     #[cfg_attr(called, inline(never))]
     pub fn ask(&mut self, number: u16, window: Window) -> Result<(u64, bool), u8> {
         match self.kept {
-            Some((last, kept, sum)) if last == number => return if kept == window { Ok((sum, true)) } else { Err(18) },
+            Some((last, kept, sum)) if last == number => return if kept == Asked::Window(window) { Ok((sum, true)) } else { Err(18) },
             Some((last, _, _)) if last.wrapping_add(1) == number => {}
             None if number == 1 => {}
             _ => return Err(17),
         }
-        let Window { address, xsize, ysize, ystride, clear } = window;
-        let step = xsize as usize + ystride as usize;
-        let rows = (0..=ysize as usize).map(|r| address as usize + r * step);
-        let idle = self.pages().1;
-        if address as usize + ysize as usize * step + xsize as usize >= idle.len() {
-            return Err(14);
-        }
-        if rows.clone().any(|row| idle[row..=row + xsize as usize].iter().any(|&word| word > FULL)) {
-            return Err(16);
-        }
-        let mut sum = 0;
-        for row in rows {
-            for word in &mut idle[row..=row + xsize as usize] {
-                sum += *word as u64;
-                if clear {
-                    *word = 0;
-                }
-            }
-        }
-        self.kept = Some((number, window, sum));
+        let sum = walk(self.pages().1, window, |_, _| {})?;
+        self.kept = Some((number, Asked::Window(window), sum));
         Ok((sum, false))
+    }
+
+    #[cfg_attr(called, inline(never))]
+    pub fn packet(&mut self, number: u16, inputs: Inputs, buffer: &mut [u8]) -> Result<(usize, u64, bool), u8> {
+        match self.kept {
+            Some((last, asked, total)) if last == number => {
+                let Packet { low, items, flags, initial, second, bytes } = &self.packet;
+                let kept = Inputs { low: *low, items, flags: *flags, initial: *initial, second: *second };
+                if asked != Asked::Packet || kept != inputs {
+                    return Err(18);
+                }
+                buffer.get_mut(..bytes.len()).ok_or(3)?.copy_from_slice(bytes);
+                return Ok((bytes.len(), total, true));
+            }
+            Some((last, _, _)) if last.wrapping_add(1) == number => {}
+            None if number == 1 => {}
+            _ => return Err(17),
+        }
+        let Inputs { low, items, flags, initial, second } = inputs;
+        if items.len() > 64 {
+            return Err(23);
+        }
+        if forbidden(items) {
+            return Err(22);
+        }
+        if flags > 3 || initial > 7 || second > 3599 {
+            return Err(19);
+        }
+        // the rows are kept from ask to ask, so that their memory is not got anew
+        let mut cleared = std::mem::take(&mut self.cleared);
+        let built = build(self.pages().1, inputs, buffer, &mut cleared);
+        match built {
+            Ok((written, total)) => {
+                cleared.rows.clear();
+                cleared.words.clear();
+                let packet = &mut self.packet;
+                (packet.low, packet.flags, packet.initial, packet.second) = (low, flags, initial, second);
+                packet.items.clear();
+                packet.items.extend_from_slice(items);
+                packet.bytes.clear();
+                packet.bytes.extend_from_slice(&buffer[..written]);
+                self.kept = Some((number, Asked::Packet, total));
+            }
+            Err(_) => cleared.put_back(self.pages().1),
+        }
+        self.cleared = cleared;
+        built.map(|(written, total)| (written, total, false))
     }
 }
