@@ -9,16 +9,16 @@ use native.Mathlib.Omega.{arith}
 use lib.Dec.{eqb}
 use lib.ListN.{drop, drop-of-length-le, getD, length, length-drop, length-take}
 use lib.Seq.{drop-cons, getD-drop, getD-take}
-use Rattle.state.specs.Laws.{turn-told}
-use Rattle.state.specs.Meaning.{turnBy, turnIn}
+use Rattle.state.specs.Laws.{turn-repeats}
+use Rattle.state.specs.Meaning.{repeatsIn, turnBy, turnIn}
 use Rattle.state.specs.Turns.{sameAsked, sameItems}
 use Rattle.state.specs.declared.Turn.{Turn}
 use Rattle.state.specs.Words.{Asked, askedIn, inputsIn, itemCountIn, itemsAt, stateWords}
 
--- the turn of an ask that was told whether it asks for the same as the kept one
-pub told-so : (l : List ℕ) (number : ℕ) (a : Asked) {same : Bool} → same ≡ sameAsked (askedIn l) a → {t : Turn} → t ≡ turnBy l number same
+-- the turn of an ask that was told whether it repeats the kept one
+pub told-so : (l : List ℕ) (number : ℕ) (a : Asked) {same : Bool} → same ≡ repeatsIn l number a → {t : Turn} → t ≡ turnBy l number same
     → t ≡ turnIn l number a
-told-so l number a e f = f ∙ ap (turnBy l number) e ∙ turn-told l number a
+told-so l number a e f = f ∙ ap (turnBy l number) e ∙ turn-repeats l number a
 
 -- tables of different lengths are different
 pub not-as-many : (x y : List ℕ) → (length x ≡ length y → ⊥) → false ≡ sameItems x y

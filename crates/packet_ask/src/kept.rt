@@ -5,7 +5,7 @@ ghost use lib.Dec.{eqb};
 ghost use lib.ListN.{getD, length, set};
 ghost use Rattle.ground.specs.Outcome.{outcomeOf};
 ghost use Rattle.ground.specs.Putting.{put};
-ghost use Rattle.state.specs.Meaning.{turnIn};
+ghost use Rattle.state.specs.Meaning.{repeatsIn, turnIn};
 ghost use Rattle.state.specs.Turns.{sameAsked, sameItems};
 ghost use Rattle.state.specs.Words.{Asked, askedIn, byteCountAt, byteCountIn, byteOf, bytesAt, bytesIn, inputsIn, itemCountIn, itemsAt, keepInputs, keepPacketIn, mostBytes, mostItems, stateWords};
 ghost use Rattle.packet_ask.specs.Answers.{rewrittenPaper};
@@ -44,19 +44,32 @@ pub(crate) fn packet_turn(
     turn_by(
         state,
         number,
-        same_inputs(state, low, items, flags, initial, second),
+        repeats(state, number, low, items, flags, initial, second),
     )
 }
 
-// Whether the kept ask is one for a packet of these inputs; a window's is not.
-pub(crate) fn same_inputs(
+// Whether an ask for a packet bears the last number and asks for the same as the kept one.
+fn repeats(
     state: &[u64],
+    number: u16,
     low: u8,
     items: &[u64],
     flags: u8,
     initial: u8,
     second: u16,
 ) -> bool
+    requires { ⌜ stateWords ≤ length (now state) ⌝ }
+    ensures { λ r. ⌜ r ≡ repeatsIn (now (state .entry)) number (Asked.packet (record { low = low; items = now (items .entry); flags = flags; initial = initial; second = second })) ⌝ }
+{
+    let last = number as u64 == state[NUMBER];
+    if last {
+        return same_inputs(state, low, items, flags, initial, second);
+    }
+    false
+}
+
+// Whether the kept ask is one for a packet of these inputs; a window's is not.
+fn same_inputs(state: &[u64], low: u8, items: &[u64], flags: u8, initial: u8, second: u16) -> bool
     requires { ⌜ stateWords ≤ length (now state) ⌝ }
     ensures { λ r. ⌜ r ≡ sameAsked (askedIn (now (state .entry))) (Asked.packet (record { low = low; items = now (items .entry); flags = flags; initial = initial; second = second })) ⌝ }
 {

@@ -1,14 +1,19 @@
 -- What a histogram call leaves, from what the library's call promises: one law for all of them, and one more for an ask of either kind.
 -- Assumes nothing.
-use mathlib.Core.Path.{_≡_, ap, ap₂, _∙_}
-use mathlib.Core.List.{List}
+use mathlib.Core.Path.{_≡_, refl, sym, ap, ap₂, subst, _∙_}
+use mathlib.Core.List.{List, [], _∷_}
 use Prim.Native.Nat.{ℕ}
-use Rattle.ground.specs.Paper.{Paper, numberOf}
+use denote.Enum.Declared.{tagOf}
+use types.Run.{OneOf, miss}
+use Rattle.ground.specs.Paper.{Paper, accepted, refusal, numberOf}
 use Rattle.pages.specs.declared.Window.{Window}
 use Rattle.ground.specs.Outcome.{outcomeOf}
 use Rattle.histogram.specs.Meaning.{CallOutcome, Value, askMeans, lent}
 use Rattle.item.specs.Inputs.{Inputs}
-use Rattle.packet_ask.specs.Meaning.{PacketOutcome, PacketValue, packetLent, packetMeans}
+use Rattle.packet_ask.specs.Answers.{packetBack, packetPaper, packet-home}
+use Rattle.packet_ask.specs.Meaning.{PacketOutcome, PacketValue, newPacket, packetAgain, packetLent, packetMeans}
+use Rattle.packet_ask.specs.declared.PacketAnswer.{PacketAnswer}
+use Rattle.packet_ask.proofs.PacketAnswer.{the-type}
 use Rattle.plavotesk.specs.Meaning.{AskValues, PacketPlaces, toldAsk, toldPacket}
 use Rattle.plavotesk.specs.Promise.{HistogramAskPromise, HistogramPacketPromise, Left, leftBy, packetLeftBy}
 use Rattle.plavotesk.proofs.Telling.{with-memory}
@@ -25,6 +30,19 @@ pub leaves-asked : (m w : List ℕ) (n : ℕ) {u v : Window} → u ≡ v → {p 
 leaves-asked m w n {u} {v} e {p} {m′} {w′} q held s g k =
     let asked : outcomeOf p (lent m′ w′) ≡ askMeans m w n v = q ∙ ap (λ (x : Window). askMeans m w n x) e in
     with-memory (leaves asked k) (ap₂ (λ (x y : ℕ). record { sum = x; again = y }) s g ∙ ap (λ (o : CallOutcome). toldAsk (o .answer) held) asked)
+
+-- a packet ask that is refused leaves its lent places
+pub packet-refused : (a : PacketAnswer) → OneOf (2 ∷ 3 ∷ 4 ∷ 5 ∷ 6 ∷ 7 ∷ 8 ∷ 9 ∷ 10 ∷ 11 ∷ []) (tagOf the-type a) → (held : PacketPlaces)
+    → held ≡ toldPacket (packetPaper a) held
+packet-refused a o held = by-paper (packetPaper a) (packet-home a)
+  where
+    refused-keys : PacketAnswer → Type 0
+    refused-keys x = OneOf (2 ∷ 3 ∷ 4 ∷ 5 ∷ 6 ∷ 7 ∷ 8 ∷ 9 ∷ 10 ∷ 11 ∷ []) (tagOf the-type x)
+
+    by-paper : (p : Paper PacketValue) → packetBack p ≡ a → held ≡ toldPacket p held
+    by-paper (accepted (newPacket v)) e = absurd (miss (2 ∷ 3 ∷ 4 ∷ 5 ∷ 6 ∷ 7 ∷ 8 ∷ 9 ∷ 10 ∷ 11 ∷ []) 0 tt (subst refused-keys (sym e) o))
+    by-paper (accepted (packetAgain v)) e = absurd (miss (2 ∷ 3 ∷ 4 ∷ 5 ∷ 6 ∷ 7 ∷ 8 ∷ 9 ∷ 10 ∷ 11 ∷ []) 1 tt (subst refused-keys (sym e) o))
+    by-paper (refusal n carried) e = refl
 
 -- a packet ask, whose lent places were written by its answer
 pub leaves-packet : (m w b : List ℕ) (n : ℕ) (i : Inputs) {p : Paper PacketValue} {m′ w′ b′ : List ℕ}

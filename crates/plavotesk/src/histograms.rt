@@ -188,15 +188,6 @@ fn hand_packet_over(answer: PacketAnswer, written: &mut u64, total: &mut u64, ag
             *total = counts;
             *again = 1;
         }
-        PacketAnswer::BufferTooShort => (),
-        PacketAnswer::TooLarge => (),
-        PacketAnswer::WrongMemory => (),
-        PacketAnswer::WrongCell => (),
-        PacketAnswer::AboveFull => (),
-        PacketAnswer::OutOfTurn => (),
-        PacketAnswer::OtherAsk => (),
-        PacketAnswer::OutOfRange => (),
-        PacketAnswer::ForbiddenItem => (),
-        PacketAnswer::TooManyItems => (),
+        _ => (),
     }
 }

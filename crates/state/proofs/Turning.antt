@@ -7,11 +7,11 @@ use Prim.Native.Nat.{ℕ, _+_, _<_, _≤_}
 use native.Mathlib.Omega.{arith}
 use lib.Dec.{eqb}
 use lib.ListN.{getD, length}
-use borrow.Author.Tests.{eq-eqb, le-leb, lt-leb, ne-eqb}
+use borrow.Author.Tests.{eq-eqb, lt-leb, ne-eqb}
 use Rattle.pages.specs.declared.Window.{Window}
 use Rattle.state.specs.Meaning.{repeatsIn}
 use Rattle.state.specs.Turns.{nextOf, sameAsked, sameOf, turnTold}
-use Rattle.state.specs.Words.{window, askedIn, keptAt, keptIn, lastIn, numberAt, packetAsk, stateWords, sumAt, windowIn}
+use Rattle.state.specs.Words.{Asked, window, askedIn, keptAt, keptIn, lastIn, numberAt, packetAsk, stateWords, sumAt, windowIn}
 use Rattle.state.specs.declared.Turn.{Turn}
 use Rattle.state.specs.declared.Turn.the-variants.{NewAsk, LastAsk, OtherAsk, OutOfTurn}
 
@@ -54,19 +54,9 @@ module _ (l : List ℕ) (w : Window) where
   pub same-windows : (getD l keptAt 0 ≡ packetAsk → ⊥) → {r : Bool} → r ≡ sameOf (windowIn l) w → r ≡ sameAsked (askedIn l) (window w)
   same-windows d e = rw (ne-eqb _ _ d) e
 
-module _ (l : List ℕ) (number : ℕ) (w : Window) where
-  -- fewer words than a state takes keep nothing to repeat
-  pub repeats-short : length l < stateWords → false ≡ repeatsIn l number w
-  repeats-short h = rw (lt-leb stateWords (length l) h)
-
-  module _ (h : stateWords ≤ length l) {last : Bool} (e : last ≡ eqb number (getD l numberAt 0)) where
-    -- the last number: an ask repeated, where it asks for the same
-    pub repeats-last : last ≡ true → {r : Bool} → r ≡ sameAsked (askedIn l) (window w) → r ≡ repeatsIn l number w
-    repeats-last k f = rw (le-leb stateWords (length l) h, ← e, k) f
-
-    -- any other number
-    pub repeats-not : last ≡ false → false ≡ repeatsIn l number w
-    repeats-not k = rw (le-leb stateWords (length l) h, ← e, k)
+-- fewer words than a state takes keep nothing to repeat
+pub repeats-short : (l : List ℕ) (number : ℕ) (a : Asked) → length l < stateWords → false ≡ repeatsIn l number a
+repeats-short l number a h = rw (lt-leb stateWords (length l) h)
 
 -- the number after 65535
 pub next-wraps : (number last : ℕ) → last ≡ 65535 → eqb number 0 ≡ eqb number (nextOf last)

@@ -31,11 +31,11 @@ turn-told w number a = ap (λ (t : Turn). pick (roomy w) t OutOfTurn) (kept-told
     kept-told false = refl
 
 -- the same, told so for the last number alone
-pub turn-repeats : (w : List ℕ) (number : ℕ) (v : Window) → turnBy w number (repeatsIn w number v) ≡ turnIn w number (window v)
-turn-repeats w number v = either (roomy w) (flagIn (getD w keptAt 0)) (eqb number (getD w numberAt 0)) refl ∙ turn-told w number (window v)
+pub turn-repeats : (w : List ℕ) (number : ℕ) (a : Asked) → turnBy w number (repeatsIn w number a) ≡ turnIn w number a
+turn-repeats w number a = either (roomy w) (flagIn (getD w keptAt 0)) (eqb number (getD w numberAt 0)) refl ∙ turn-told w number a
   where
     same : Bool
-    same = sameAsked (askedIn w) (window v)
+    same = sameAsked (askedIn w) a
 
     either : (r b e : Bool) → eqb number (getD w numberAt 0) ≡ e
         → pick r (turnTold (pick b (lastIn w) Nothing) number (r && (e && same))) OutOfTurn
@@ -44,6 +44,15 @@ turn-repeats w number v = either (roomy w) (flagIn (getD w keptAt 0)) (eqb numbe
     either true false e h = refl
     either true true true h = refl
     either true true false h = rw h
+
+module _ (w : List ℕ) (number : ℕ) (a : Asked) (h : stateWords ≤ length w) {last : Bool} (e : last ≡ eqb number (getD w numberAt 0)) where
+  -- the last number: an ask repeated, where it asks for the same
+  pub repeats-last : last ≡ true → {r : Bool} → r ≡ sameAsked (askedIn w) a → r ≡ repeatsIn w number a
+  repeats-last k f = rw (le-leb stateWords (length w) h, ← e, k) f
+
+  -- any other number repeats nothing
+  pub repeats-not : last ≡ false → false ≡ repeatsIn w number a
+  repeats-not k = rw (le-leb stateWords (length w) h, ← e, k)
 
 -- the number of the next ask is the turn of a new one, whatever it asks for
 pub next-is-new : (kept : Kept) (n : ℕ) (a : Asked) → nextAfter kept ≡ accepted n → turnOf kept n a ≡ NewAsk

@@ -8,9 +8,8 @@ use lib.ListN.{getD, length}
 use Rattle.ground.specs.Choice.{pick}
 use Rattle.ground.specs.Paper.{Paper, accepted, refused}
 use Rattle.pages.specs.Meaning.{sizedOf}
-use Rattle.pages.specs.declared.Window.{Window}
 use Rattle.state.specs.Turns.{nextOf, sameAsked, turnOf, turnTold}
-use Rattle.state.specs.Words.{Asked, window, Kept, Last, Nothing, askedIn, keptIn, numberAt, stateWords, wordsAt}
+use Rattle.state.specs.Words.{Asked, Kept, Last, Nothing, askedIn, keptIn, numberAt, stateWords, wordsAt}
 use Rattle.state.specs.declared.Turn.{Turn}
 use Rattle.state.specs.declared.Turn.the-variants.{OutOfTurn}
 
@@ -30,9 +29,9 @@ turnIn state number a = pick (roomy state) (turnOf (keptIn state) number a) OutO
 abbrev pub turnBy : List ℕ → ℕ → Bool → Turn
 turnBy state number same = pick (roomy state) (turnTold (keptIn state) number same) OutOfTurn
 
--- whether an ask of a window bears the last number and asks for the same as the kept one
-abbrev pub repeatsIn : List ℕ → ℕ → Window → Bool
-repeatsIn state number w = roomy state && (eqb number (getD state numberAt 0) && sameAsked (askedIn state) (window w))
+-- whether an ask bears the last number and asks for the same as the kept one
+abbrev pub repeatsIn : List ℕ → ℕ → Asked → Bool
+repeatsIn state number a = roomy state && (eqb number (getD state numberAt 0) && sameAsked (askedIn state) a)
 
 -- "A new ask bears the number after the last accepted, 1 after opening, 0 after 65535"; 13 for a last number that no ask bears
 abbrev pub nextAfterLast : ℕ → Paper ℕ

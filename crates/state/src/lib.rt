@@ -139,7 +139,7 @@ pub fn next_number(a: NextAnswer) -> u8
 
 // Whether an ask of a window bears the last number and asks for the same as the kept one.
 fn repeats(state: &[u64], number: u16, window: Window) -> bool
-    ensures { λ r. ⌜ r ≡ repeatsIn (now (state .entry)) number window ⌝ }
+    ensures { λ r. ⌜ r ≡ repeatsIn (now (state .entry)) number (Asked.window window) ⌝ }
 {
     if state.len() < STATE_WORDS {
         return false;

@@ -1,7 +1,9 @@
--- `plavotesk::histograms::hand_packet_over` meets its contract: each answer's own values, or what the places held.
+-- `hand_packet_over` meets its contract: an accepted ask's own values, or what the places held.
 -- Assumes nothing.
-use mathlib.Core.Path.{refl}
+use mathlib.Core.Path.{refl, ap}
 use borrow.Author.Needs.{needs}
+use Rattle.plavotesk.specs.Meaning.{PacketPlaces}
+use Rattle.plavotesk.proofs.Leaving.{packet-refused}
 use Rattle.plavotesk.proofs.histograms.hand_packet_over.Statement.{statement}
 use Rattle.plavotesk.proofs.histograms.hand_packet_over.Tie as tie
 
@@ -12,38 +14,10 @@ returns-2 : tie.Need-returns-2
 returns-2 c = rw (c .before .answer2 .given .1) (refl, (refl, refl))
 
 returns-3 : tie.Need-returns-3
-returns-3 c = rw (c .enum-told .given .1) (refl, (refl, refl))
-
-returns-4 : tie.Need-returns-4
-returns-4 c = rw (c .enum-told2 .given .1) (refl, (refl, refl))
-
-returns-5 : tie.Need-returns-5
-returns-5 c = rw (c .enum-told3 .given .1) (refl, (refl, refl))
-
-returns-6 : tie.Need-returns-6
-returns-6 c = rw (c .enum-told4 .given .1) (refl, (refl, refl))
-
-returns-7 : tie.Need-returns-7
-returns-7 c = rw (c .enum-told5 .given .1) (refl, (refl, refl))
-
-returns-8 : tie.Need-returns-8
-returns-8 c = rw (c .enum-told6 .given .1) (refl, (refl, refl))
-
-returns-9 : tie.Need-returns-9
-returns-9 c = rw (c .enum-told7 .given .1) (refl, (refl, refl))
-
-returns-10 : tie.Need-returns-10
-returns-10 c = rw (c .enum-told8 .given .1) (refl, (refl, refl))
-
-returns-11 : tie.Need-returns-11
-returns-11 c = rw (c .enum-told9 .given .1) (refl, (refl, refl))
-
-returns-12 : tie.Need-returns-12
-returns-12 c = rw (c .enum-told10 .given .1) (refl, (refl, refl))
+returns-3 c =
+    let a = c .before .args in
+    let stays = packet-refused (a .answer) (c .match .keys3) _ in
+    (ap (λ (p : PacketPlaces). p .written) stays, (ap (λ (p : PacketPlaces). p .total) stays, ap (λ (p : PacketPlaces). p .again) stays))
 
 pub hand-packet-over-spec : {M : Type 1} → statement M
-hand-packet-over-spec =
-    tie.close
-    (tie.spec (λ c. search needs) (λ c. search needs) (λ c. search needs) (λ c. search needs) (λ c. search needs) (λ c. search needs) (λ c. search needs)
-    (λ c. search needs) (λ c. search needs) (λ c. search needs) (λ c. search needs) (λ c. search needs) returns returns-2 returns-3 returns-4 returns-5
-    returns-6 returns-7 returns-8 returns-9 returns-10 returns-11 returns-12)
+hand-packet-over-spec = tie.close (tie.spec (λ c. search needs) (λ c. search needs) returns returns-2 returns-3)

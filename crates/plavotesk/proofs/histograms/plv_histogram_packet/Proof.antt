@@ -12,8 +12,9 @@ returns c =
     let start = ask .before .before .before .before .before .before .before .before in
     let a = start .args in
     let told = over .hand-packet-over .ensures in
-    leaves-packet (a .memory .now) (a .state .now) (a .buffer .now) (a .number) _ (ask .ask-packet .ensures .outcome)
-    _ (told .0) (told .1 .0) (told .1 .1) (c .packet-number .ensures)
+    leaves-packet (a .memory .now) (a .state .now) (a .buffer .now) (a .number)
+    (record { low = a .low; items = a .items .now; flags = a .flags; initial = a .initial; second = a .second }) (ask .ask-packet .ensures .outcome)
+    (record { written = a .written .now; total = a .total .now; again = a .again .now }) (told .0) (told .1 .0) (told .1 .1) (c .packet-number .ensures)
 
 pub plv-histogram-packet-spec : {M : Type 1} → statement M
 plv-histogram-packet-spec =
