@@ -1,10 +1,10 @@
 // Histogram memory: document 01's case, and a memory's last counter at the smallest and the largest N.
 ghost use mathlib.Core.Path.{_≡_};
 ghost use lib.ListN.{length};
-use histogram::AskAnswer;
 use histogram::STATE_WORDS;
-use histogram::Window;
 use libc::STDOUT_FILENO;
+use window_ask::AskAnswer;
+use window_ask::Window;
 
 // All the lines of histogram memory.
 pub fn run() {
@@ -106,7 +106,7 @@ fn flip(memory: &[u32], state: &mut [u64]) {
 
 // An ask, and its line.
 fn ask(memory: &mut [u32], state: &mut [u64], number: u16, window: Window) {
-    let answer = histogram::ask(memory, state, number, window);
+    let answer = window_ask::ask(memory, state, number, window);
     word(b"ask ");
     decimal(number as u64);
     asked(answer);
@@ -114,7 +114,7 @@ fn ask(memory: &mut [u32], state: &mut [u64], number: u16, window: Window) {
 
 // How an ask's line ends.
 fn asked(answer: AskAnswer) {
-    let number = histogram::ask_number(answer);
+    let number = window_ask::ask_number(answer);
     match answer {
         AskAnswer::New { sum } => summed(b" new ", sum),
         AskAnswer::Again { sum } => summed(b" again ", sum),

@@ -2,6 +2,7 @@ pub mod StarredCases
 pub mod ReadBack
 pub mod SameBits
 pub mod Ledger
+pub mod Session
 pub mod Exported
 pub mod OneOutcome
 pub mod Refusals

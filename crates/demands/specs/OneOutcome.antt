@@ -34,8 +34,9 @@ pub use Rattle.item.specs.OneOutcome.{window-of-one, plain-one, adds-one, sends
 pub use Rattle.data_packet.specs.OneOutcome.{build-one}
 -- histogram memory
 pub use Rattle.state.specs.OneOutcome.{fitting-one, turn-one, turn-by-one, next-one, next-number-one}
-pub use Rattle.histogram.specs.OneOutcome.{open-one, increment-one, increments-one, flip-one, ask-one}
-pub use Rattle.histogram.specs.OneOutcome.{open-number-one, increment-number-one, increments-number-one, flip-number-one, ask-number-one}
+pub use Rattle.histogram.specs.OneOutcome.{open-one, increment-one, increments-one, flip-one}
+pub use Rattle.histogram.specs.OneOutcome.{open-number-one, increment-number-one, increments-number-one, flip-number-one}
+pub use Rattle.window_ask.specs.OneOutcome.{ask-one, ask-number-one}
 -- packet asks
 pub use Rattle.packet_ask.specs.OneOutcome.{ask-packet-one, packet-number-one}
 -- the code program's lines

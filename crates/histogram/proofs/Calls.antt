@@ -1,4 +1,4 @@
--- The outcomes of opening, increments, flips and asks, one law a return.
+-- The outcomes of opening, increments and flips, one law a return.
 -- Assumes nothing.
 use mathlib.Core.Path.{_≡_, ap, ap₂, _∙_}
 use mathlib.Core.Bool.{Bool, true, false, not}
@@ -6,23 +6,15 @@ use mathlib.Core.List.{List, _++_}
 use Prim.Native.Nat.{ℕ, _<_, _≤_}
 use lib.ListN.{drop, length, replicate, set}
 use borrow.Author.Tests.{le-leb, lt-leb}
-use Rattle.ground.specs.Outcome.{Outcome, outcomeOf, accept, refuse}
+use Rattle.ground.specs.Outcome.{outcomeOf, accept, refuse}
 use Rattle.ground.specs.Paper.{mapped}
-use Rattle.pages.specs.Answers.{countPaper, takenPaper}
+use Rattle.pages.specs.Answers.{countPaper}
 use Rattle.pages.specs.Meaning.{sizedOf}
-use Rattle.pages.specs.Promise.{CountPromise, TakePromise}
+use Rattle.pages.specs.Promise.{CountPromise}
 use Rattle.pages.specs.declared.CountAnswer.{CountAnswer}
-use Rattle.pages.specs.declared.Taken.{Taken}
-use Rattle.pages.specs.declared.Window.{Window}
-use Rattle.state.specs.Meaning.{fittingOf}
-use Rattle.state.specs.Turns.{turnOf}
-use Rattle.state.specs.Words.{window, flagOf, freshIn, keepIn, keptIn, pageIn, secondAt, stateWords}
-use Rattle.state.specs.declared.Turn.{Turn}
-use Rattle.histogram.specs.Answers.{askPaper, incrementPaper, incrementsPaper}
-use Rattle.histogram.specs.Meaning.{Admits, CallOutcome, Lent, admission, admitted, askMeans, counting, done, flipMeans, incrementMeans}
-use Rattle.histogram.specs.Meaning.{feedOf, feeding, incrementsMeans, keeping, lent, newMeans, openMeans, taking, turnMeans}
-use Rattle.histogram.specs.Meaning.{again}
-use Rattle.histogram.specs.declared.AskAnswer.{AskAnswer}
+use Rattle.state.specs.Words.{flagOf, freshIn, pageIn, secondAt, stateWords}
+use Rattle.histogram.specs.Answers.{incrementPaper, incrementsPaper}
+use Rattle.histogram.specs.Meaning.{Admits, counting, done, feedOf, feeding, flipMeans, incrementMeans, incrementsMeans, lent, openMeans}
 use Rattle.histogram.specs.declared.IncrementAnswer.{IncrementAnswer}
 use Rattle.histogram.specs.declared.IncrementsAnswer.{IncrementsAnswer}
 
@@ -48,11 +40,6 @@ module _ (m w : List ℕ) where
   unfolding openMeans
   opened h k e f = rw (le-leb stateWords (length w) h, k) (ap₂ (λ x y. accept done (lent x y)) e f)
 
-  -- a memory that does not fit its state is refused by 13, whatever would come after it
-  pub by13 : {A : Type 0} (o : Outcome A Lent) → fittingOf (length m) w ≡ false → refuse 13 (lent m w) ≡ admitted m w o
-  unfolding admission
-  by13 o h = rw h
-
   -- an increment does what counting on the active page did
   pub increments : (a : ℕ) → Admits m w → {p : Bool} → p ≡ pageIn w → {c : CountAnswer} {m′ : List ℕ} → CountPromise m p a c m′
       → (r : IncrementAnswer) → incrementPaper r ≡ mapped (λ x. done) (countPaper c)
@@ -70,25 +57,3 @@ module _ (m w : List ℕ) where
   pub flips : Admits m w → {p : Bool} → p ≡ not (pageIn w) → {f : ℕ} → f ≡ flagOf p → accept done (lent m (set w secondAt f)) ≡ flipMeans m w
   unfolding flipMeans
   flips h e g = rw h (ap (λ (x : ℕ). accept done (lent m (set w secondAt x))) (g ∙ ap flagOf e))
-
-module _ (m w : List ℕ) (n : ℕ) (v : Window) where
-  -- an ask does what its turn says
-  pub asks : Admits m w → {t : Turn} → t ≡ turnOf (keptIn w) n (window v) → {u : Turn} → t ≡ u → {o : CallOutcome}
-      → o ≡ turnMeans u m w n v → o ≡ askMeans m w n v
-  unfolding askMeans
-  asks h e f p = rw (h, ← e, f) p
-
-  -- a new ask does what taking its window says
-  pub takes : {idle : Bool} → idle ≡ not (pageIn w) → {t : Taken} {m′ : List ℕ} → TakePromise m idle v t m′ → {u : Taken} → t ≡ u
-      → {o : CallOutcome} → o ≡ taking w n v (outcomeOf (takenPaper u) m′) → o ≡ newMeans m w n v
-  unfolding newMeans
-  takes i k e p = rw (← i, ← (k .outcome), e) p
-
-  -- a sum kept
-  pub keeps : {sum : ℕ} {m′ : List ℕ} {r : AskAnswer} → r ≡ AskAnswer.New sum → {w′ : List ℕ} → w′ ≡ keepIn w n v sum
-      → outcomeOf (askPaper r) (lent m′ w′) ≡ keeping w n v m′ sum
-  keeps {m′ = m′} e f = ap₂ (λ x y. outcomeOf (askPaper x) (lent m′ y)) e f
-
--- a sum answered again
-pub repeats : {m w : List ℕ} {sum : ℕ} {r : AskAnswer} → r ≡ AskAnswer.Again sum → outcomeOf (askPaper r) (lent m w) ≡ accept (again sum) (lent m w)
-repeats {m} {w} e = ap (λ x. outcomeOf (askPaper x) (lent m w)) e

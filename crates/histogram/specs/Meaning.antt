@@ -1,6 +1,6 @@
--- Histogram memory and numbered asks: what each call means, in document 01's words and order.
+-- Histogram memory: what each call means, in document 01's words and order.
 -- Assumes nothing.
-use mathlib.Core.Bool.{Bool, not, _&&_}
+use mathlib.Core.Bool.{Bool, _&&_}
 use mathlib.Core.List.{List, [], _∷_}
 use mathlib.Core.Path.{_≡_}
 use Prim.Native.Nat.{ℕ, suc}
@@ -8,13 +8,9 @@ use lib.ListN.{length, replicate}
 use Rattle.ground.specs.Choice.{pick}
 use Rattle.ground.specs.Outcome.{Outcome, outcomeOf, accept, refuse, onwardTo}
 use Rattle.ground.specs.Paper.{Paper, accepted, refusal, refused, mapped}
-use Rattle.pages.specs.Meaning.{countMeans, sizedOf, takeMeans}
-use Rattle.pages.specs.declared.Window.{Window}
+use Rattle.pages.specs.Meaning.{countMeans, sizedOf}
 use Rattle.state.specs.Meaning.{fittingOf, roomy}
-use Rattle.state.specs.Turns.{turnOf}
-use Rattle.state.specs.Words.{window, flipIn, freshIn, keepIn, keptIn, pageIn}
-use Rattle.state.specs.declared.Turn.the-variants.{NewAsk, LastAsk, OtherAsk, OutOfTurn}
-use Rattle.state.specs.declared.Turn.{Turn}
+use Rattle.state.specs.Words.{flipIn, freshIn, pageIn}
 
 -- what an accepted call answers: nothing more; an ask's sum, new; an ask's kept sum, again
 pub data Value : Type 0 where
@@ -90,26 +86,3 @@ incrementsMeans memory state addresses = admitted memory state (feeding state (f
 -- "A flip exchanges active and idle"; refusal 13
 unfoldable pub flipMeans : List ℕ → List ℕ → CallOutcome
 flipMeans memory state = admitted memory state (accept done (lent memory (flipIn state)))
-
--- a sum answered as new: "Its sum, window and number are kept"
-abbrev pub keeping : List ℕ → ℕ → Window → List ℕ → ℕ → CallOutcome
-keeping state number w memory sum = accept (new sum) (lent memory (keepIn state number w sum))
-
--- what a new ask leaves that took its window: the sum kept, or refused with the state as it was
-abbrev pub taking : List ℕ → ℕ → Window → Outcome ℕ (List ℕ) → CallOutcome
-taking state number w o = onwardTo (keeping state number w (o .leaves)) (lent (o .leaves) state) (o .answer)
-
--- "It works on the idle page": a new ask takes its window there; refusals 14, 16
-unfoldable pub newMeans : List ℕ → List ℕ → ℕ → Window → CallOutcome
-newMeans memory state number w = taking state number w (takeMeans memory (not (pageIn state)) w)
-
--- "The last accepted number with the same window answers the kept sum as again"; refusals 18 or 17
-abbrev pub turnMeans : Turn → List ℕ → List ℕ → ℕ → Window → CallOutcome
-turnMeans NewAsk memory state number w = newMeans memory state number w
-turnMeans (LastAsk sum) memory state number w = accept (again sum) (lent memory state)
-turnMeans OtherAsk memory state number w = refuse 18 (lent memory state)
-turnMeans OutOfTurn memory state number w = refuse 17 (lent memory state)
-
--- an ask; refusals 13, then 18 or 17, 14, 16; a repeat meets only 13
-unfoldable pub askMeans : List ℕ → List ℕ → ℕ → Window → CallOutcome
-askMeans memory state number w = admitted memory state (turnMeans (turnOf (keptIn state) number (window w)) memory state number w)

@@ -5,20 +5,18 @@ use mathlib.Core.List.{List}
 use Prim.Native.Nat.{ℕ}
 use Rattle.ground.specs.Outcome.{outcomeOf, outcome-one}
 use Rattle.ground.specs.Paper.{Paper, numberOf, one-value}
-use Rattle.pages.specs.declared.Window.{Window}
 use Rattle.histogram.specs.Answers.{openedPaper, openedBack, opened-home, incrementPaper, incrementBack, increment-home}
 use Rattle.histogram.specs.Answers.{incrementsPaper, incrementsBack, increments-home}
-use Rattle.histogram.specs.Answers.{flipPaper, flipBack, flip-home, askPaper, askBack, ask-home}
+use Rattle.histogram.specs.Answers.{flipPaper, flipBack, flip-home}
 use Rattle.histogram.specs.Meaning.{CallOutcome, Lent, Value, lent}
-use Rattle.histogram.specs.Promise.{OpenPromise, IncrementPromise, IncrementsPromise, FlipPromise, AskPromise}
+use Rattle.histogram.specs.Promise.{OpenPromise, IncrementPromise, IncrementsPromise, FlipPromise}
 use Rattle.histogram.specs.declared.Opened.{Opened}
 use Rattle.histogram.specs.declared.IncrementAnswer.{IncrementAnswer}
 use Rattle.histogram.specs.declared.IncrementsAnswer.{IncrementsAnswer}
 use Rattle.histogram.specs.declared.FlipAnswer.{FlipAnswer}
-use Rattle.histogram.specs.declared.AskAnswer.{AskAnswer}
 
 -- one outcome, whatever the call: answer, memory and state
-call-one : {R : Type 0} (paper : R → Paper Value) (back : Paper Value → R) → ((r : R) → back (paper r) ≡ r)
+pub call-one : {R : Type 0} (paper : R → Paper Value) (back : Paper Value → R) → ((r : R) → back (paper r) ≡ r)
     → {r s : R} {m n w v : List ℕ} {o : CallOutcome} → outcomeOf (paper r) (lent m w) ≡ o → outcomeOf (paper s) (lent n v) ≡ o
     → (r ≡ s) × (m ≡ n) × (w ≡ v)
 call-one paper back home p q =
@@ -45,11 +43,6 @@ increments-one p q =
 pub flip-one : {m w : List ℕ} {r s : FlipAnswer} {w′ v′ : List ℕ} → FlipPromise m w r w′ → FlipPromise m w s v′ → (r ≡ s) × (w′ ≡ v′)
 flip-one p q = let one = call-one flipPaper flipBack flip-home (p .outcome) (q .outcome) in (one .0, one .2)
 
--- an ask
-pub ask-one : {m w : List ℕ} {number : ℕ} {window : Window} {r s : AskAnswer} {m′ n′ w′ v′ : List ℕ}
-    → AskPromise m w number window r m′ w′ → AskPromise m w number window s n′ v′ → (r ≡ s) × (m′ ≡ n′) × (w′ ≡ v′)
-ask-one p q = call-one askPaper askBack ask-home (p .outcome) (q .outcome)
-
 -- one number for opening's answer
 pub open-number-one : (answer : Opened) {m n : ℕ} → m ≡ numberOf (openedPaper answer) → n ≡ numberOf (openedPaper answer) → m ≡ n
 open-number-one answer p q = one-value p q
@@ -61,10 +54,6 @@ increment-number-one answer p q = one-value p q
 -- one number for a flip's answer
 pub flip-number-one : (answer : FlipAnswer) {m n : ℕ} → m ≡ numberOf (flipPaper answer) → n ≡ numberOf (flipPaper answer) → m ≡ n
 flip-number-one answer p q = one-value p q
-
--- one number for an ask's answer
-pub ask-number-one : (answer : AskAnswer) {m n : ℕ} → m ≡ numberOf (askPaper answer) → n ≡ numberOf (askPaper answer) → m ≡ n
-ask-number-one answer p q = one-value p q
 
 -- one number for a run's answer
 pub increments-number-one : (answer : IncrementsAnswer) {m n : ℕ} → m ≡ numberOf (incrementsPaper answer) → n ≡ numberOf (incrementsPaper answer) → m ≡ n

@@ -1,6 +1,6 @@
 -- What a call may answer and leave: to show something of it, show it of a refusal by any number but 0, and of what it accepts.
 -- Assumes nothing.
-use mathlib.Core.Bool.{true, not, _&&_}
+use mathlib.Core.Bool.{true, _&&_}
 use mathlib.Core.Path.{_≡_, refl}
 use mathlib.Core.List.{List}
 use Prim.Native.Nat.{ℕ, _<_}
@@ -10,12 +10,11 @@ use Rattle.ground.specs.Choice.{pick-elim}
 use Rattle.ground.specs.Outcome.{Outcome, Stays, refuse, onwardTo}
 use Rattle.ground.specs.Paper.{Paper, accepted, refused-not}
 use Rattle.ground.specs.Questions.{both-hold}
-use Rattle.pages.specs.Meaning.{sizedOf, walkTaken, windowWalk}
-use Rattle.pages.specs.declared.Window.{Window}
+use Rattle.pages.specs.Meaning.{sizedOf}
 use Rattle.state.specs.Meaning.{roomy}
 use Rattle.state.specs.Words.{pageIn}
 use Rattle.histogram.specs.Meaning.{Admits, CallOutcome, admission, admitted, done}
-use Rattle.histogram.specs.Meaning.{Fed, Lent, feedOf, feeding, incrementsMeans, lent, openMeans, taking, freshly}
+use Rattle.histogram.specs.Meaning.{Fed, Lent, feedOf, feeding, incrementsMeans, lent, openMeans, freshly}
 use Rattle.histogram.specs.States.{admission-elim}
 
 -- an accepted opening: the memory's length is one that opening takes, its words are 0, and the state is fresh
@@ -47,10 +46,6 @@ module _ (m w : List ℕ) where
       → P (admitted m w o)
   admitted-elim P o p q =
       admission-elim (λ (a : Paper (Unit {0})). admission m w ≡ a → P (onwardTo (λ x. o) (lent m w) a)) m w (λ h. p) (λ n z e. q n z) refl
-
--- a new ask whose window was taken on the idle page
-abbrev pub newTaken : List ℕ → List ℕ → ℕ → Window → CallOutcome
-newTaken m w number v = taking w number v (walkTaken (windowWalk m (not (pageIn w)) v))
 
 -- many increments in one call: a run on the active page, or a refusal that leaves memory and state
 pub increments-elim : (m w addresses : List ℕ) (P : Outcome Fed Lent → Type 0)

@@ -4,14 +4,12 @@ use mathlib.Core.Path.{_≡_}
 use mathlib.Core.List.{List}
 use Prim.Native.Nat.{ℕ}
 use Rattle.ground.specs.Outcome.{outcomeOf}
-use Rattle.pages.specs.declared.Window.{Window}
-use Rattle.histogram.specs.Answers.{openedPaper, incrementPaper, incrementsPaper, flipPaper, askPaper}
-use Rattle.histogram.specs.Meaning.{askMeans, flipMeans, incrementMeans, incrementsMeans, lent, openMeans, newMeans}
+use Rattle.histogram.specs.Answers.{openedPaper, incrementPaper, incrementsPaper, flipPaper}
+use Rattle.histogram.specs.Meaning.{flipMeans, incrementMeans, incrementsMeans, lent, openMeans}
 use Rattle.histogram.specs.declared.Opened.{Opened}
 use Rattle.histogram.specs.declared.IncrementAnswer.{IncrementAnswer}
 use Rattle.histogram.specs.declared.IncrementsAnswer.{IncrementsAnswer}
 use Rattle.histogram.specs.declared.FlipAnswer.{FlipAnswer}
-use Rattle.histogram.specs.declared.AskAnswer.{AskAnswer}
 
 -- what opening promises
 pub record OpenPromise (memory state : List ℕ) (r : Opened) (memory′ state′ : List ℕ) : Type 0 where
@@ -28,11 +26,3 @@ pub record IncrementsPromise (memory state addresses : List ℕ) (r : Increments
 -- what a flip promises; the memory is lent unchangeable
 pub record FlipPromise (memory state : List ℕ) (r : FlipAnswer) (state′ : List ℕ) : Type 0 where
   pub outcome : outcomeOf (flipPaper r) (lent memory state′) ≡ flipMeans memory state
-
--- what a new ask promises, which is no public call
-pub record NewPromise (memory state : List ℕ) (number : ℕ) (window : Window) (r : AskAnswer) (memory′ state′ : List ℕ) : Type 0 where
-  pub outcome : outcomeOf (askPaper r) (lent memory′ state′) ≡ newMeans memory state number window
-
--- what an ask promises
-pub record AskPromise (memory state : List ℕ) (number : ℕ) (window : Window) (r : AskAnswer) (memory′ state′ : List ℕ) : Type 0 where
-  pub outcome : outcomeOf (askPaper r) (lent memory′ state′) ≡ askMeans memory state number window

@@ -9,13 +9,13 @@ use borrow.Author.Tests.{eq-eqb, le-leb, leb-true}
 use lib.ListN.{drop, getD, length}
 use Rattle.ground.specs.Choice.{pick-elim}
 use Rattle.ground.specs.Questions.{both-hold}
-use Rattle.ground.specs.Outcome.{Outcome, onwardTo}
+use Rattle.ground.specs.Outcome.{Outcome, refuse, onwardTo}
 use Rattle.ground.specs.Paper.{Paper, accepted, refusal, refused, refused-not}
 use Rattle.pages.specs.Meaning.{countMeans, sizedOf}
 use Rattle.pages.specs.declared.Window.{Window}
 use Rattle.state.specs.Meaning.{fittingOf, roomy}
 use Rattle.state.specs.Words.{window, Kept, Last, Nothing, flagIn, flagOf, flipIn, freshIn, keepIn, keptIn, pageIn, stateWords, wordsAt}
-use Rattle.histogram.specs.Meaning.{Admits, admission, counting, incrementMeans, lent}
+use Rattle.histogram.specs.Meaning.{Admits, Lent, admission, admitted, counting, incrementMeans, lent}
 
 -- what holds of ten words and any rest holds of a state's words
 pub ten : (P : List ℕ → Type 0) → ((a b c d e f g h i j : ℕ) (l : List ℕ) → P (a ∷ b ∷ c ∷ d ∷ e ∷ f ∷ g ∷ h ∷ i ∷ j ∷ l))
@@ -42,6 +42,11 @@ admission-elim P m w p q = pick-elim P (fittingOf (length m) w) _ _ p (λ h. q 1
 pub admits : (m w : List ℕ) → fittingOf (length m) w ≡ true → Admits m w
 unfolding admission
 admits m w h = rw h
+
+-- a memory that does not fit its state is refused by 13, whatever would come after it
+pub by13 : (m w : List ℕ) {A : Type 0} (o : Outcome A Lent) → fittingOf (length m) w ≡ false → refuse 13 (lent m w) ≡ admitted m w o
+unfolding admission
+by13 m w o h = rw h
 
 -- where a call may go on, a state's words were lent
 pub admits-long : (m w : List ℕ) → Admits m w → stateWords ≤ length w

@@ -16,12 +16,13 @@ use Rattle.state.specs.Turns.{nextOf, sameAsked, turnOf}
 use Rattle.state.specs.Words.{Asked, window, Kept, Last, Nothing, freshIn, keptIn}
 use Rattle.state.specs.declared.Turn.the-variants.{NewAsk, LastAsk, OtherAsk, OutOfTurn}
 use Rattle.state.specs.declared.Turn.{Turn}
-use Rattle.histogram.specs.Meaning.{Admits, CallOutcome, admission, askMeans, done, new, openMeans}
+use Rattle.histogram.specs.Meaning.{Admits, CallOutcome, admission, done, new, openMeans}
 use Rattle.histogram.specs.Outcomes.{is-opened}
 use Rattle.item.specs.Inputs.{Inputs}
 use Rattle.ledger.specs.Repeat.{is-new, is-new-packet, stays-kept}
 use Rattle.ledger.specs.Runs.{Call, ask, askPacket, Ledger, NoNew, answered, opening, run, step}
 use Rattle.histogram.specs.States.{fresh-admits, fresh-says, framed-admits, framed-same}
+use Rattle.window_ask.specs.Meaning.{askMeans}
 use Rattle.ledger.specs.Stays.{run-stays}
 
 -- the number that a new ask must bear, beside what is kept: "the number after the last accepted, 1 after opening"

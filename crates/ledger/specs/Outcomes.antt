@@ -20,10 +20,10 @@ use Rattle.state.specs.Turns.{turnOf}
 use Rattle.state.specs.Words.{Asked, window, flipIn, keepPacketIn, keptIn, pageIn}
 use Rattle.state.specs.declared.Turn.the-variants.{NewAsk, LastAsk, OtherAsk, OutOfTurn}
 use Rattle.state.specs.declared.Turn.{Turn}
-use Rattle.histogram.specs.Meaning.{Admits, CallOutcome, again, askMeans, counting, done, flipMeans, incrementMeans, lent, new}
-use Rattle.histogram.specs.Meaning.{newMeans, taking, turnMeans}
+use Rattle.histogram.specs.Meaning.{Admits, CallOutcome, again, counting, done, flipMeans, incrementMeans, lent, new}
 use Rattle.ledger.specs.Runs.{Call, increment, flip, ask, askPacket, callMeans, withoutBuffer}
-use Rattle.histogram.specs.Outcomes.{admitted-elim, newTaken}
+use Rattle.histogram.specs.Outcomes.{admitted-elim}
+use Rattle.window_ask.specs.Meaning.{askMeans, newMeans, newTaken, taking, turnMeans}
 
 -- a new packet ask whose items were run: its total, what they left, and its packet kept
 abbrev pub newBuilt : List ℕ → ℕ → Inputs → Run → CallOutcome

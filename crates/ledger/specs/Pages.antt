@@ -15,7 +15,8 @@ use Rattle.pages.specs.Walks.{cells-all-under, walk-leaves}
 use Rattle.pages.specs.Words.{put-same, put-other}
 use Rattle.pages.specs.declared.Window.{Window}
 use Rattle.state.specs.Words.{pageIn}
-use Rattle.histogram.specs.Meaning.{CallOutcome, askMeans, done, incrementMeans, lent}
+use Rattle.histogram.specs.Meaning.{CallOutcome, done, incrementMeans, lent}
+use Rattle.window_ask.specs.Meaning.{askMeans}
 use Rattle.ledger.specs.Outcomes.{call-elim}
 use Rattle.ledger.specs.Runs.{Call, increment, flip, ask, askPacket, callMeans}
 

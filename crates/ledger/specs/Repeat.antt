@@ -22,10 +22,11 @@ use Rattle.state.specs.Laws.{inputs-same, window-same}
 use Rattle.state.specs.Turns.{turnOf}
 use Rattle.state.specs.Words.{Asked, window, Last, bytesIn, keptIn}
 use Rattle.state.specs.declared.Turn.the-variants.{NewAsk}
-use Rattle.histogram.specs.Meaning.{Admits, CallOutcome, Value, new, again, askMeans, lent}
+use Rattle.histogram.specs.Meaning.{Admits, CallOutcome, Value, new, again, lent}
 use Rattle.ledger.specs.Outcomes.{call-elim}
 use Rattle.ledger.specs.Runs.{Call, increment, flip, ask, askPacket, Ledger, NoNew, answered, opening, run, run-append, step, totalIn}
 use Rattle.histogram.specs.States.{admits-long, keep-says}
+use Rattle.window_ask.specs.Meaning.{askMeans}
 use Rattle.ledger.specs.Stays.{call-admits, run-stays}
 
 -- a ledger on which calls may go on, and whose state keeps this ask

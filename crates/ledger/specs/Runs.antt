@@ -9,7 +9,8 @@ use Rattle.ground.specs.Outcome.{outcomeOf}
 use Rattle.ground.specs.Paper.{Paper, accepted, refusal, mapped}
 use Rattle.item.specs.Inputs.{Inputs}
 use Rattle.pages.specs.declared.Window.{Window}
-use Rattle.histogram.specs.Meaning.{CallOutcome, Value, done, new, again, askMeans, flipMeans, incrementMeans, lent, openMeans}
+use Rattle.histogram.specs.Meaning.{CallOutcome, Value, done, new, again, flipMeans, incrementMeans, lent, openMeans}
+use Rattle.window_ask.specs.Meaning.{askMeans}
 use Rattle.packet_ask.specs.Meaning.{PacketOutcome, PacketValue, newPacket, packetAgain, packetMeans}
 
 -- a call on an opened memory

@@ -8,7 +8,8 @@ use types.Run.{OneOf, miss}
 use Rattle.ground.specs.Paper.{Paper, accepted, refusal, numberOf}
 use Rattle.pages.specs.declared.Window.{Window}
 use Rattle.ground.specs.Outcome.{outcomeOf}
-use Rattle.histogram.specs.Meaning.{CallOutcome, Value, askMeans, lent}
+use Rattle.histogram.specs.Meaning.{CallOutcome, Value, lent}
+use Rattle.window_ask.specs.Meaning.{askMeans}
 use Rattle.item.specs.Inputs.{Inputs}
 use Rattle.packet_ask.specs.Answers.{packetBack, packetPaper, packet-home}
 use Rattle.packet_ask.specs.Meaning.{PacketOutcome, PacketValue, newPacket, packetAgain, packetLent, packetMeans}

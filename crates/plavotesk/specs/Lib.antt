@@ -1,4 +1,3 @@
 pub mod Meaning
 pub mod Promise
 pub mod OneOutcome
-pub mod Session

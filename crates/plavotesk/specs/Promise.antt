@@ -15,7 +15,8 @@ use Rattle.cadence.specs.Meaning.{Begins, Ends, secondsMeans}
 use Rattle.item.specs.Inputs.{Inputs}
 use Rattle.pages.specs.declared.Window.{Window}
 use Rattle.state.specs.Meaning.{nextMeans}
-use Rattle.histogram.specs.Meaning.{CallOutcome, Fed, Lent, askMeans, flipMeans, incrementMeans, incrementsMeans, openMeans}
+use Rattle.histogram.specs.Meaning.{CallOutcome, Fed, Lent, flipMeans, incrementMeans, incrementsMeans, openMeans}
+use Rattle.window_ask.specs.Meaning.{askMeans}
 use Rattle.plavotesk.specs.Meaning.{toldAs, told, toldWith, toldFound, partOf, Edges, edgesOf, AskValues, toldAsk, Quotients, quotientsOf}
 use Rattle.packet_ask.specs.Meaning.{PacketOutcome, packetMeans}
 use Rattle.plavotesk.specs.Meaning.{CountEnds, countEnds, PacketPlaces, toldPacket}

@@ -1,13 +1,13 @@
 // Histogram memory and numbered asks; the state is words that the caller lends and keeps.
-use histogram::AskAnswer;
 use histogram::IncrementsAnswer;
-use histogram::Window;
 use packet_ask::PacketAnswer;
 use state::NextAnswer;
+use window_ask::AskAnswer;
+use window_ask::Window;
 ghost use mathlib.Core.Path.{_≡_};
-ghost use Rattle.histogram.specs.Answers.{askPaper};
 ghost use Rattle.histogram.specs.Meaning.{lent};
 ghost use Rattle.packet_ask.specs.Answers.{packetPaper};
+ghost use Rattle.window_ask.specs.Answers.{askPaper};
 ghost use Rattle.plavotesk.specs.Meaning.{toldAsk, toldPacket, windowOf};
 ghost use Rattle.plavotesk.specs.Promise.{HistogramOpenPromise, HistogramIncrementPromise, HistogramFlipPromise, HistogramAskPromise, HistogramIncrementsPromise, HistogramNextPromise, HistogramPacketPromise};
 
@@ -92,9 +92,9 @@ pub extern "C" fn plv_histogram_ask(
     ensures { λ r. ⌜ HistogramAskPromise (now (memory .entry)) (now (state .entry)) number (windowOf address xsize ysize ystride clear) (record { sum = now (sum .entry); again = now (again .entry) }) (record { number = r; memory = now (memory .exit); state = now (state .exit) }, record { sum = now (sum .exit); again = now (again .exit) }) ⌝ }
 {
     let asked = window(address, xsize, ysize, ystride, clear);
-    let answer = histogram::ask(memory, state, number, asked);
+    let answer = window_ask::ask(memory, state, number, asked);
     hand_over(answer, sum, again);
-    histogram::ask_number(answer)
+    window_ask::ask_number(answer)
 }
 
 // Builds the data packet of a table of items on the idle page, once for each number, and writes it at the buffer's front: the bytes written, and the total of the clearing items' own sums; again is 1 for a repeat, which writes the same bytes, 0 for a new ask; 13, 18, 17, 23, 22, 19, then 14, 16, 12 an item, then 3.

@@ -3,9 +3,9 @@
 use native.Mathlib.Omega.{arith}
 use borrow.Author.Needs.{needs}
 use Rattle.ground.specs.Questions.{answered-no, answered-yes}
-use Rattle.histogram.proofs.Calls.{by13, flips}
+use Rattle.histogram.proofs.Calls.{flips}
 use Rattle.histogram.specs.Meaning.{Admits, flipMeans}
-use Rattle.histogram.specs.States.{admits, admits-long}
+use Rattle.histogram.specs.States.{admits, admits-long, by13}
 use Rattle.histogram.proofs.flip.Statement.{statement}
 use Rattle.histogram.proofs.flip.Tie as tie
 

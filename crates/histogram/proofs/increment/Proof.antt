@@ -2,9 +2,9 @@
 -- Assumes nothing.
 use borrow.Author.Needs.{needs}
 use Rattle.ground.specs.Questions.{answered-no, answered-yes}
-use Rattle.histogram.proofs.Calls.{by13, increments}
+use Rattle.histogram.proofs.Calls.{increments}
 use Rattle.histogram.specs.Meaning.{Admits, incrementMeans}
-use Rattle.histogram.specs.States.{admits, admits-long}
+use Rattle.histogram.specs.States.{admits, admits-long, by13}
 use Rattle.histogram.proofs.increment.Statement.{statement}
 use Rattle.histogram.proofs.increment.Tie as tie
 

@@ -2,9 +2,9 @@
 -- Assumes nothing.
 use borrow.Author.Needs.{needs}
 use Rattle.ground.specs.Questions.{answered-no, answered-yes}
-use Rattle.histogram.proofs.Calls.{by13, feeds}
+use Rattle.histogram.proofs.Calls.{feeds}
 use Rattle.histogram.specs.Meaning.{incrementsMeans}
-use Rattle.histogram.specs.States.{admits, admits-long}
+use Rattle.histogram.specs.States.{admits, admits-long, by13}
 use Rattle.histogram.proofs.increments.Statement.{statement}
 use Rattle.histogram.proofs.increments.Tie as tie
 

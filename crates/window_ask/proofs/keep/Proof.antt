@@ -1,11 +1,11 @@
--- `histogram::keep` meets its contract: eight stores, from the third word on, each of which leaves as many words as were lent.
+-- `window_ask::keep` meets its contract: eight stores, from the third word on, each of which leaves as many words as were lent.
 -- Assumes nothing.
 use mathlib.Core.Path.{refl}
 use native.Mathlib.Omega.{arith}
 use lib.ListN.{length-set}
 use borrow.Author.Needs.{needs}
-use Rattle.histogram.proofs.keep.Statement.{statement}
-use Rattle.histogram.proofs.keep.Tie as tie
+use Rattle.window_ask.proofs.keep.Statement.{statement}
+use Rattle.window_ask.proofs.keep.Tie as tie
 
 returns : tie.Need-returns
 returns c = (refl, rw (c .flag .ensures))

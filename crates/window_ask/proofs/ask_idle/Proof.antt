@@ -1,10 +1,10 @@
--- `histogram::ask_idle` meets its contract: what taking the window says.
+-- `window_ask::ask_idle` meets its contract: what taking the window says.
 -- Assumes nothing.
 use mathlib.Core.Path.{refl}
 use borrow.Author.Needs.{needs}
-use Rattle.histogram.proofs.Calls.{takes, keeps}
-use Rattle.histogram.proofs.ask_idle.Statement.{statement}
-use Rattle.histogram.proofs.ask_idle.Tie as tie
+use Rattle.window_ask.proofs.Asking.{takes, keeps}
+use Rattle.window_ask.proofs.ask_idle.Statement.{statement}
+use Rattle.window_ask.proofs.ask_idle.Tie as tie
 
 -- the call, where its window was taken or refused
 abbrev called : tie.After-take → tie.Start

@@ -20,17 +20,18 @@ use Rattle.packet_ask.specs.Outcomes.{packet-elim}
 use Rattle.pages.specs.Totals.{total}
 use Rattle.pages.specs.declared.Window.{Window}
 use Rattle.state.specs.Words.{pageIn}
-use Rattle.histogram.specs.Meaning.{CallOutcome, Fed, Lent, Value, again, askMeans, done, feedOf, feeding, lent, new, openMeans}
+use Rattle.histogram.specs.Meaning.{CallOutcome, Fed, Lent, Value, again, done, feedOf, feeding, lent, new, openMeans}
 use Rattle.histogram.specs.Outcomes.{increments-elim, open-elim}
+use Rattle.window_ask.specs.Meaning.{askMeans}
 use Rattle.ledger.specs.Conservation.{Balanced, opened-balanced, run-balanced}
 use Rattle.ledger.specs.Feeding.{FedRun, feed-run, run-old}
 use Rattle.ledger.specs.Outcomes.{call-elim}
 use Rattle.ledger.specs.Repeat.{packet-repeat, repeat}
 use Rattle.ledger.specs.Runs.{Call, increment, flip, ask, askPacket, Ledger, NoNew, acceptedBy, callMeans, clearedBy, isNew, opening}
 use Rattle.ledger.specs.Runs.{run, run-append, step, totalIn}
 use Rattle.plavotesk.specs.Meaning.{AskValues, PacketPlaces, told, toldAs, toldAsk, toldPacket, toldWith}
 use Rattle.plavotesk.specs.Promise.{HistogramAskPromise, HistogramFlipPromise, HistogramIncrementPromise, HistogramIncrementsPromise}
 use Rattle.plavotesk.specs.Promise.{HistogramOpenPromise, HistogramPacketPromise, Left, PacketLeft, leftBy, packetLeftBy}
 
 -- a call that a bench made, with what it left; asks of both kinds and a run of increments also with what their lent places held, and hold
 pub data Made : Type 0 where

@@ -1,4 +1,4 @@
--- `histogram::ask` meets its contract: refused by 13, or what the ask's turn says.
+-- `window_ask::ask` meets its contract: refused by 13, or what the ask's turn says.
 -- Assumes nothing.
 use mathlib.Core.Path.{_≡_, refl, _∙_}
 use borrow.Author.Needs.{needs}
@@ -6,11 +6,12 @@ use Rattle.ground.specs.Questions.{answered-no, answered-yes}
 use Rattle.state.specs.Laws.{turn-kept}
 use Rattle.state.specs.Words.{window}
 use Rattle.state.specs.declared.Turn.{Turn}
-use Rattle.histogram.proofs.Calls.{by13, asks, repeats}
-use Rattle.histogram.specs.Meaning.{Admits, CallOutcome, askMeans, turnMeans}
-use Rattle.histogram.specs.States.{admits, admits-long}
-use Rattle.histogram.proofs.ask.Statement.{statement}
-use Rattle.histogram.proofs.ask.Tie as tie
+use Rattle.window_ask.proofs.Asking.{asks, repeats}
+use Rattle.histogram.specs.Meaning.{Admits, CallOutcome}
+use Rattle.histogram.specs.States.{admits, admits-long, by13}
+use Rattle.window_ask.specs.Meaning.{askMeans, turnMeans}
+use Rattle.window_ask.proofs.ask.Statement.{statement}
+use Rattle.window_ask.proofs.ask.Tie as tie
 
 -- the call, where the memory was found to fit its state
 abbrev called : tie.Else1 → tie.Start

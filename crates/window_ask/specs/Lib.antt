@@ -1,0 +1,4 @@
+pub mod Meaning
+pub mod Answers
+pub mod Promise
+pub mod OneOutcome
