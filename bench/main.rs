@@ -1,6 +1,6 @@
 //! The proved calls against plain Rust, in one process and on the same inputs. Prints a table: nanoseconds of each, and the
-//! ratio proved over plain, the median of alternating rounds; under 1.0 the proved call is the faster. Asked for `growth`, it prints how
-//! time grows with the work instead.
+//! ratio proved over plain, the median of alternating rounds; under 1.0 the proved call is the faster. A word after `ratios` asks for the
+//! rows alone whose names have it. Asked for `growth`, it prints how time grows with the work instead.
 
 #[path = "plain.rs"]
 mod plain;
@@ -58,8 +58,11 @@ fn median(mut times: Vec<f64>) -> f64 {
     times[times.len() / 2]
 }
 
-/// A row of the table: both in turn, round by round.
+/// A row of the table: both in turn, round by round. Where a word is asked for, only rows whose names have it.
 fn row(name: &str, mut proved: impl FnMut(), mut plain: impl FnMut()) {
+    if std::env::args().nth(2).is_some_and(|word| !name.contains(&word)) {
+        return;
+    }
     let (first, second) = (repeats(&mut proved), repeats(&mut plain));
     let (mut of_proved, mut of_plain) = (Vec::new(), Vec::new());
     for _ in 0..ROUNDS {
