@@ -1,19 +1,19 @@
 -- Laws that the proofs of items cite: a word's fields, and results put in their formats.
 -- Assumes nothing.
-use mathlib.Core.Path.{_≡_, sym, ap, _∙_, subst}
+use mathlib.Core.Path.{_≡_, refl, sym, ap, _∙_, subst}
 use mathlib.Core.Bool.{Bool, true, false, _&&_}
 use mathlib.Core.List.{List}
 use Prim.Native.Nat.{ℕ, _+_, _^_, _<_, _≤_}
 use native.Mathlib.Omega.{arith}
 use lib.Dec.{eqb, leb, lit≤, lit<}
-use lib.IntN.{ℤ, pos}
+use lib.IntN.{pos}
 use lib.ListN.{length}
-use borrow.Author.Tests.{le-leb, lt-leb, ne-eqb}
+use borrow.Author.Tests.{le-leb, ne-eqb}
 use Rattle.ground.specs.Bits.{toBits}
 use Rattle.ground.specs.Choice.{pick, pick-elim}
 use Rattle.ground.specs.Outcome.{Outcome, outcomeOf, accept, refuse, onwardTo}
 use Rattle.ground.specs.Paper.{accepted, refused, numberOf, mapped}
-use Rattle.code.specs.Meaning.{placeMeans, packMeans, fitsAt, bytesWith, codeOf, largest}
+use Rattle.code.specs.Meaning.{placeMeans, fitsAt, bytesWith, codeOf, largest}
 use Rattle.code.specs.Answers.{packedPaper}
 use Rattle.code.specs.Promise.{PackPromise}
 use Rattle.code.specs.declared.Packed.{Packed}
@@ -106,20 +106,30 @@ packed-known : (r : ℕ) {t : Bool} → leb r largest ≡ t → formatBits 3 r �
 unfolding formatBits
 packed-known r e = ap (λ (b : Bool). pick b (accepted (codeOf 0 (pos r))) (refused 12)) e
 
--- a result up to the largest, packed
-pub packed-is : (buffer after : List ℕ) (at r : ℕ) (v : ℤ) (packed : Packed) (s : Sent) → r ≤ largest → v ≡ pos r → s ≡ sentOf packed
-    → PackPromise buffer at v 0 packed after → FormatPromise buffer at 3 r s after
-packed-is buffer after at r v packed s h w e p =
-    let t : leb r largest ≡ true = le-leb r largest h in
-    format-put buffer at 3 r after (codeOf 0 (pos r)) s (packed-known r t)
-    (placed buffer after at (codeOf 0 (pos r)) packed s e
-    (p .outcome
-    ∙ ap (λ (z : ℤ). packMeans buffer at z 0) w
-    ∙ ap (λ (b : Bool). pick b (placeMeans buffer at (codeOf 0 (pos r))) (refuse 8 buffer)) t))
+-- a number outside the rule of packing is a result too large for its format
+outside : (buffer after : List ℕ) (packed : Packed) → outcomeOf (packedPaper packed) after ≡ refuse 8 buffer
+    → outcomeOf (sentPaper (sentOf packed)) after ≡ refuse 12 buffer
+outside buffer after (P.Next next) e = absurd (omega (arith, ap (λ (o : Outcome ℕ (List ℕ)). numberOf (o .answer)) e))
+outside buffer after P.OutsideRule e = ap (λ (o : Outcome ℕ (List ℕ)). refuse 12 (o .leaves)) e
+outside buffer after P.TooShort e = absurd (omega (arith, ap (λ (o : Outcome ℕ (List ℕ)). numberOf (o .answer)) e))
 
--- a result above it
-pub packed-large : (buffer : List ℕ) (at r : ℕ) → largest < r → FormatPromise buffer at 3 r Sent.TooLarge buffer
-packed-large buffer at r h = format-large buffer at 3 r (packed-known r (lt-leb r largest h))
+-- a result packed, where it is not too large
+pub packed-is : (buffer after : List ℕ) (at r : ℕ) (packed : Packed) (s : Sent) → s ≡ sentOf packed → PackPromise buffer at (pos r) 0 packed after
+    → FormatPromise buffer at 3 r s after
+packed-is buffer after at r packed s e p = either (leb r largest) refl
+  where
+    either : (t : Bool) → leb r largest ≡ t → FormatPromise buffer at 3 r s after
+    either true t =
+        format-put buffer at 3 r after (codeOf 0 (pos r)) s (packed-known r t)
+        (placed buffer after at (codeOf 0 (pos r)) packed s e
+        (p .outcome ∙ ap (λ (b : Bool). pick b (placeMeans buffer at (codeOf 0 (pos r))) (refuse 8 buffer)) t))
+    either false t =
+        record {
+          outcome =
+              ap (λ (a : Sent). outcomeOf (sentPaper a) after) e
+              ∙ outside buffer after packed (p .outcome ∙ ap (λ (b : Bool). pick b (placeMeans buffer at (codeOf 0 (pos r))) (refuse 8 buffer)) t)
+              ∙ sym (ap (onwardTo (placeMeans buffer at) buffer) (packed-known r t));
+        }
 
 -- the 16-bit float that was answered
 pub float-known : (r : ℕ) (float : Code16) → Float16CodePromise r float → formatBits 0 r ≡ mapped (toBits 16) (code16Paper float)

@@ -58,12 +58,8 @@ fn send_integer(buffer: &mut [u8], at: u64, result: u64) -> Sent
 fn send_packed(buffer: &mut [u8], at: u64, result: u64) -> Sent
     ensures { λ r. ⌜ FormatPromise (now (buffer .entry)) at 3 result r (now (buffer .exit)) ⌝ }
 {
-    if result <= code::LARGEST as u64 {
-        let packed = pack::pack(buffer, at, result as i32, 0);
-        sent_of(packed)
-    } else {
-        Sent::TooLarge
-    }
+    let packed = pack::pack_count(buffer, at, result);
+    sent_of(packed)
 }
 
 // So many bits of a number put at a bit position.

@@ -2,6 +2,7 @@
 mod write;
 
 use code::Packed;
+ghost use lib.IntN.{pos};
 ghost use Rattle.code.specs.Promise.{PackPromise};
 ghost use Rattle.pack.specs.Promise.{FieldPromise};
 
@@ -12,6 +13,18 @@ pub fn pack(buffer: &mut [u8], at: u64, v: i32, drop: u8) -> Packed
     let m = code::magnitude(v);
     if code::in_rule(m, drop) {
         let code = write::code(drop, code::sign(v), m);
+        write::place(buffer, at, code.number, code.count)
+    } else {
+        Packed::OutsideRule
+    }
+}
+
+// A count put into a buffer as a code with drop 0, from a bit position on.
+pub fn pack_count(buffer: &mut [u8], at: u64, count: u64) -> Packed
+    ensures { λ r. ⌜ PackPromise (now (buffer .entry)) at (pos count) 0 r (now (buffer .exit)) ⌝ }
+{
+    if count <= code::LARGEST as u64 {
+        let code = write::code(0, 0, count as u32);
         write::place(buffer, at, code.number, code.count)
     } else {
         Packed::OutsideRule

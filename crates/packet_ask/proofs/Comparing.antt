@@ -1,7 +1,7 @@
 -- Whether a packet's ask repeats the kept one, one law a return.
 -- Assumes nothing.
 use mathlib.Core.Path.{_≡_, refl, sym, ap, ap₂, _∙_}
-use mathlib.Core.Bool.{Bool, true, false, _&&_}
+use mathlib.Core.Bool.{Bool, true, false, _&&_, and-assoc, and-true}
 use mathlib.Core.List.{List, [], _∷_}
 use Prim.Native.Nat.{ℕ, suc, _+_, _<_, _≤_, zero-le}
 use native.Mathlib.Numerals.{add-one}
@@ -40,52 +40,47 @@ module _ (l : List ℕ) (h : stateWords ≤ length l) where
   pub other-count : (items : List ℕ) {count : ℕ} → count ≡ itemCountIn l → (count ≡ length items → ⊥) → false ≡ sameItems (inputsIn l .items) items
   other-count items e d = not-as-many (inputsIn l .items) items (λ f. d (e ∙ sym table-long ∙ f))
 
--- the items before `i` are those of the kept table, which has as many, and the rest decides
-pub record Alike (l items : List ℕ) (count i : ℕ) : Type 0 where
+-- whether the items before `i` are those of the kept table, which has as many, is said, and with it the rest decides
+pub record Alike (l items : List ℕ) (count : ℕ) (same : Bool) (i : ℕ) : Type 0 where
   pub words : stateWords ≤ length l
   pub counted : count ≡ itemCountIn l
   pub as-many : count ≡ length items
   pub within : i ≤ count
-  pub rest : sameItems (inputsIn l .items) items ≡ sameItems (drop i (inputsIn l .items)) (drop i items)
+  pub rest : sameItems (inputsIn l .items) items ≡ same && sameItems (drop i (inputsIn l .items)) (drop i items)
 
-pub alike-none : (l items : List ℕ) {count : ℕ} → stateWords ≤ length l → count ≡ itemCountIn l → count ≡ length items → Alike l items count 0
+pub alike-none : (l items : List ℕ) {count : ℕ} → stateWords ≤ length l → count ≡ itemCountIn l → count ≡ length items → Alike l items count true 0
 alike-none l items h e f = record { words = h; counted = e; as-many = f; within = zero-le; rest = refl }
 
-module _ {l items : List ℕ} {count i : ℕ} (a : Alike l items count i) where
-  -- all are the same
-  pub alike-all : count ≤ i → true ≡ sameItems (inputsIn l .items) items
+module _ {l items : List ℕ} {count i : ℕ} {same : Bool} (a : Alike l items count same i) where
+  -- all were compared
+  pub alike-all : count ≤ i → same ≡ sameItems (inputsIn l .items) items
   alike-all h =
       let kept = inputsIn l .items in
       let long : length kept ≡ itemCountIn l = table-long l (a .words) in
-      sym (a .rest ∙ ap₂ sameItems (drop-of-length-le kept {i = i} (omega (arith, a .counted))) (drop-of-length-le items {i = i} (omega (arith, a .as-many))))
+      sym
+      (a .rest
+      ∙ ap (λ (b : Bool). same && b)
+      (ap₂ sameItems (drop-of-length-le kept {i = i} (omega (arith, a .counted))) (drop-of-length-le items {i = i} (omega (arith, a .as-many))))
+      ∙ and-true same)
 
-  module _ (h : i < count) where
-    -- what comes next
-    next-is : sameItems (inputsIn l .items) items
-        ≡ eqb (getD l (itemsAt + i) 0) (getD items i 0) && sameItems (drop (suc i) (inputsIn l .items)) (drop (suc i) items)
-    next-is =
-        let kept = inputsIn l .items in
-        let long : length kept ≡ itemCountIn l = table-long l (a .words) in
-        let word : getD kept i 0 ≡ getD l (itemsAt + i) 0
-        = getD-take (itemCountIn l) (drop itemsAt l) i 0 (omega (arith, a .counted)) ∙ getD-drop itemsAt l i 0 in
-        a .rest
-        ∙ ap₂ sameItems (drop-cons kept i 0 (omega (arith, a .counted))) (drop-cons items i 0 (omega (arith, a .as-many)))
-        ∙ ap (λ (x : ℕ). eqb x (getD items i 0) && sameItems (drop (suc i) kept) (drop (suc i) items)) word
-
-    -- one item more is the same
-    pub alike-more : eqb (getD l (itemsAt + i) 0) (getD items i 0) ≡ true → Alike l items count (i + 1)
-    alike-more e =
-        record {
-          words = a .words;
-          counted = a .counted;
-          as-many = a .as-many;
-          within = omega arith;
-          rest =
-              next-is
-              ∙ ap (λ (b : Bool). b && sameItems (drop (suc i) (inputsIn l .items)) (drop (suc i) items)) e
-              ∙ ap (λ (n : ℕ). sameItems (drop n (inputsIn l .items)) (drop n items)) (sym (add-one i));
-        }
-
-    -- the next is another
-    pub alike-not : eqb (getD l (itemsAt + i) 0) (getD items i 0) ≡ false → false ≡ sameItems (inputsIn l .items) items
-    alike-not e = sym (next-is ∙ ap (λ (b : Bool). b && sameItems (drop (suc i) (inputsIn l .items)) (drop (suc i) items)) e)
+  -- one item more was compared
+  pub alike-more : i < count → {one : Bool} → one ≡ eqb (getD l (itemsAt + i) 0) (getD items i 0) → Alike l items count (same && one) (i + 1)
+  alike-more h {one} e =
+      let kept = inputsIn l .items in
+      let long : length kept ≡ itemCountIn l = table-long l (a .words) in
+      let word : getD kept i 0 ≡ getD l (itemsAt + i) 0
+      = getD-take (itemCountIn l) (drop itemsAt l) i 0 (omega (arith, a .counted)) ∙ getD-drop itemsAt l i 0 in
+      record {
+        words = a .words;
+        counted = a .counted;
+        as-many = a .as-many;
+        within = omega arith;
+        rest =
+            a .rest
+            ∙ ap (λ (b : Bool). same && b)
+            (ap₂ sameItems (drop-cons kept i 0 (omega (arith, a .counted))) (drop-cons items i 0 (omega (arith, a .as-many)))
+            ∙ ap (λ (x : ℕ). eqb x (getD items i 0) && sameItems (drop (suc i) kept) (drop (suc i) items)) word
+            ∙ ap (λ (b : Bool). b && sameItems (drop (suc i) kept) (drop (suc i) items)) (sym e)
+            ∙ ap (λ (n : ℕ). one && sameItems (drop n kept) (drop n items)) (sym (add-one i)))
+            ∙ sym (and-assoc same one (sameItems (drop (i + 1) kept) (drop (i + 1) items)));
+      }

@@ -100,14 +100,13 @@ fn same_table(state: &[u64], items: &[u64]) -> bool
     if count != items.len() {
         return false;
     }
+    let mut same = true;
     let mut i = 0;
     while i < count {
-        if !same_item(state, items, i) {
-            return false;
-        }
+        same = same & same_item(state, items, i);
         i += 1;
     }
-    true
+    same
 }
 
 // Whether an item of the kept table is that of this one.
