@@ -22,7 +22,7 @@ pub use Rattle.reader.specs.OneOutcome.{reader-one}
 -- plain formats
 pub use Rattle.format.specs.OneOutcome.{float16-code-one, float16-count-one, float8-code-one, float8-count-one, int24-code-one, int24-count-one}
 pub use Rattle.format.specs.OneOutcome.{code16-number-one, code8-number-one, code24-number-one, count24-number-one}
-pub use Rattle.format.specs.OneOutcome.{log8-code-one, log8-counts-one, log8-code-number-one}
+pub use Rattle.logarithm.specs.OneOutcome.{log8-code-one, log8-counts-one, log8-code-number-one}
 -- the cadence
 pub use Rattle.cadence.specs.OneOutcome.{seconds-one, beginning-one, ending-one, length-number-one, level-number-one}
 -- readings and rates

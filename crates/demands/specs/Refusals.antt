@@ -35,7 +35,8 @@ use Rattle.data_packet.specs.Outcomes.{build-stays}
 use Rattle.packet_ask.specs.Meaning.{PacketValue, packetLent, packetMeans}
 use Rattle.packet_ask.specs.Outcomes.{packet-stays}
 use Rattle.rate.specs.Meaning.{RateValues, ReadingValues, rateMeans, readingMeans}
-use Rattle.format.specs.Meaning.{floatValue, Takes, int24Means, Log8Takes}
+use Rattle.format.specs.Meaning.{floatValue, Takes, int24Means}
+use Rattle.logarithm.specs.Meaning.{Log8Takes}
 use Rattle.cadence.specs.Meaning.{Begins, Ends, secondsMeans}
 use Rattle.pages.specs.declared.CountAnswer.{CountAnswer}
 use Rattle.pages.specs.declared.Taken as pages

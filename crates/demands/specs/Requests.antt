@@ -2,11 +2,11 @@
 -- Assumes nothing.
 
 -- 2026-01, "the largest v with 2^(v-8) not above c to the eighth power", to the letter
-pub use Rattle.format.specs.Logarithms.{log8-to-the-letter, log8-from-the-letter}
+pub use Rattle.logarithm.specs.Logarithms.{log8-to-the-letter, log8-from-the-letter}
 -- "Order of bytes must follow order of counts"
-pub use Rattle.format.specs.RoundTrip.{log8-order}
+pub use Rattle.logarithm.specs.RoundTrip.{log8-order}
 -- "from a byte, the smallest and largest counts that give it, or a plain word that no count does": one relation seen from two sides
-pub use Rattle.format.specs.RoundTrip.{log8-encloses, log8-enclosed, log8-ends, log8-none}
+pub use Rattle.logarithm.specs.RoundTrip.{log8-encloses, log8-enclosed, log8-ends, log8-none}
 -- 2026-06, "Codes already on file keep their bits and meaning: show that every code accepted before decodes as before"
 pub use Rattle.code.specs.OnFile.{reads-as-before, onward-as-before, decodes-as-before, packs-as-before, unpack-as-before, pack-as-before}
 -- and no other answer moved: every answer of the old reader but 11, and every outcome of the old writer but 8, is today's

@@ -1,14 +1,10 @@
--- The last counts and the first ones past them, and small counts and some bytes of the logarithm, by computing; document 01's starred cases are in `demands`.
+-- The last counts and the first ones past them, by computing; document 01's starred cases are in `demands`.
 -- Assumes nothing.
 use mathlib.Core.Path.{_≡_, refl}
-use mathlib.Core.List.{List, [], _∷_, _++_}
-use Prim.Native.Nat.{ℕ, zero, suc, _^_}
-use native.Mathlib.Nat.{le-refl}
+use Prim.Native.Nat.{_^_}
 use lib.Count.{leadingZeros}
-use lib.Dec.{lit<}
 use Rattle.ground.specs.Paper.{accepted, refused}
-use Rattle.format.specs.Meaning.{codeMeans, int24Means, twiceToEighth, Log8Given, between, noCount, log8Of, log8Means}
-use Rattle.format.specs.Eighths.{first-computed, ends-given, none-given}
+use Rattle.format.specs.Meaning.{codeMeans, int24Means}
 
 -- the last count below the 16-bit limit has the last code
 pub float16-last : codeMeans 12 (2 ^ 27) 134217727 ≡ accepted 0xFFFF
@@ -37,38 +33,3 @@ int24-last = refl
 -- the first count past it is refused
 pub int24-refused : int24Means 16777216 ≡ refused 12
 int24-refused = refl
-
--- 2026-01: the logarithm bytes of the counts before n, in order
-abbrev pub bytesBefore : ℕ → List ℕ
-bytesBefore zero = []
-bytesBefore (suc n) = bytesBefore n ++ (log8Of n ∷ [])
-
--- those of 0 to 9
-pub log8-small : bytesBefore 10 ≡ 0 ∷ 8 ∷ 16 ∷ 20 ∷ 24 ∷ 26 ∷ 28 ∷ 30 ∷ 32 ∷ 33 ∷ []
-unfolding twiceToEighth
-log8-small = refl
-
--- the last count of the logarithm has the last byte
-pub log8-last : log8Means 2147483647 ≡ accepted 255
-unfolding twiceToEighth
-log8-last = refl
-
--- the first count past it is refused
-pub log8-refused : log8Means 2147483648 ≡ refused 12
-unfolding twiceToEighth
-log8-refused = refl
-
--- the counts of byte 61, which is the byte of 100
-pub log8-of-61 : Log8Given 61 (between 99 107)
-unfolding twiceToEighth
-log8-of-61 = ends-given (lit< tt) (lit< tt) (first-computed 61 {count = 99} refl) (first-computed 62 {count = 108} refl) (lit< tt)
-
--- those of the last byte
-pub log8-of-255 : Log8Given 255 (between 1969251188 2147483647)
-unfolding twiceToEighth
-log8-of-255 = ends-given (lit< tt) (lit< tt) (first-computed 255 {count = 1969251188} refl) (first-computed 256 {count = 2147483648} refl) (lit< tt)
-
--- no count gives byte 9: one count has 8, two have 16
-pub log8-of-9 : Log8Given 9 noCount
-unfolding twiceToEighth
-log8-of-9 = none-given (lit< tt) (lit< tt) (first-computed 9 {count = 2} refl) (first-computed 10 {count = 2} refl) (le-refl 2)

@@ -5,7 +5,5 @@ pub mod OneOutcome
 pub mod Codes
 pub mod Floats
 pub mod Widths
-pub mod Logarithms
-pub mod Eighths
 pub mod RoundTrip
 pub mod Cases

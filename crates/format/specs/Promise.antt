@@ -6,10 +6,8 @@ use Rattle.format.specs.declared.Code16.{Code16}
 use Rattle.format.specs.declared.Code8.{Code8}
 use Rattle.format.specs.declared.Code24.{Code24}
 use Rattle.format.specs.declared.Count24.{Count24}
-use Rattle.format.specs.declared.Log8Code.{Log8Code}
-use Rattle.format.specs.declared.Log8Counts.{Log8Counts}
-use Rattle.format.specs.Answers.{code16Paper, code8Paper, code24Paper, count24Paper, log8CodePaper, log8CountsPaper}
-use Rattle.format.specs.Meaning.{floatValue, Takes, int24Means, Log8Takes, Log8Given}
+use Rattle.format.specs.Answers.{code16Paper, code8Paper, code24Paper, count24Paper}
+use Rattle.format.specs.Meaning.{floatValue, Takes, int24Means}
 
 -- the largest 16-bit float whose value is not above the count; 12 from 2^27 on
 pub record Float16CodePromise (count : ℕ) (r : Code16) : Type 0 where
@@ -34,11 +32,3 @@ pub record Int24CodePromise (count : ℕ) (r : Code24) : Type 0 where
 -- the code itself; 12 above 16,777,215
 pub record Int24CountPromise (code : ℕ) (r : Count24) : Type 0 where
   pub answer : count24Paper r ≡ int24Means code
-
--- the logarithm byte of the count; 12 above 2,147,483,647
-pub record Log8CodePromise (count : ℕ) (r : Log8Code) : Type 0 where
-  pub answer : Log8Takes count (log8CodePaper r)
-
--- the smallest and the largest count that give the byte, or the word that no count does
-pub record Log8CountsPromise (code : ℕ) (r : Log8Counts) : Type 0 where
-  pub answer : Log8Given code (log8CountsPaper r)

@@ -1,8 +1,7 @@
--- What is read from a code is written as that code, and a logarithm byte and its counts are one relation: the calls, one after the other.
+-- What is read from a code is written as that code: the calls, one after the other.
 -- Assumes nothing.
 use mathlib.Core.Path.{_≡_, refl, sym, ap, _∙_, subst}
-use Prim.Native.Nat.{ℕ, _^_, _≤_, _<_}
-use native.Mathlib.Nat.{le-refl}
+use Prim.Native.Nat.{ℕ, _^_, _<_}
 use lib.Dec.{ltb}
 use Rattle.ground.specs.Choice.{pick-elim}
 use Rattle.ground.specs.Paper.{Paper, accepted, refused, refused-not, accepted-same, one-answer}
@@ -10,14 +9,9 @@ use Rattle.format.specs.declared.Code16.{Code16}
 use Rattle.format.specs.declared.Code8.{Code8}
 use Rattle.format.specs.declared.Code24.{Code24}
 use Rattle.format.specs.declared.Count24.{Count24}
-use Rattle.format.specs.declared.Log8Code.{Log8Code}
-use Rattle.format.specs.declared.Log8Counts.{Log8Counts}
 use Rattle.format.specs.Answers.{code16Paper, code16Back, code16-home, code8Paper, code8Back, code8-home, count24Paper, count24Back, count24-home}
-use Rattle.format.specs.Answers.{log8CodePaper, log8CodeBack, log8-code-home, log8CountsPaper}
-use Rattle.format.specs.Logarithms.{Encloses, bytes-follow-counts, log8-one, two-sides}
-use Rattle.format.specs.Meaning.{floatValue, Takes, int24Means, Gives}
+use Rattle.format.specs.Meaning.{floatValue, Takes, int24Means}
 use Rattle.format.specs.Promise.{Float16CodePromise, Float16CountPromise, Float8CodePromise, Float8CountPromise, Int24CodePromise, Int24CountPromise}
-use Rattle.format.specs.Promise.{Log8CodePromise, Log8CountsPromise}
 use Rattle.format.specs.Widths.{float-back}
 
 -- the 16-bit float of the count that a 16-bit float means is that float
@@ -43,30 +37,3 @@ pub int24-again : {count code : ℕ} {r : Count24} → Int24CodePromise count (C
 int24-again {count} {code} p q =
     let e : code ≡ count = itself (p .answer) in
     one-answer count24Paper count24Back count24-home (q .answer ∙ ap int24Means e ∙ sym (p .answer) ∙ ap accepted e) refl
-
--- "Order of bytes must follow order of counts": a greater count never has a smaller byte
-pub log8-order : {m n a b : ℕ} → m ≤ n → Log8CodePromise m (Log8Code.Code a) → Log8CodePromise n (Log8Code.Code b) → a ≤ b
-log8-order h p q = bytes-follow-counts h (p .answer) (q .answer)
-
--- a count's byte has two counts, and they enclose the count
-pub log8-encloses : {count code : ℕ} {r : Log8Counts} → Log8CodePromise count (Log8Code.Code code) → Log8CountsPromise code r
-    → Encloses (log8CountsPaper r) count
-log8-encloses {count} {code} {r} p q = two-sides code count (log8CountsPaper r) (q .answer) .0 (p .answer)
-
--- every count that a byte's two counts enclose, both of them too, has that byte
-pub log8-enclosed : {count code : ℕ} {r : Log8Counts} {s : Log8Code} → Log8CountsPromise code r → Encloses (log8CountsPaper r) count → Log8CodePromise count s
-    → s ≡ Log8Code.Code code
-log8-enclosed {count} {code} {r} {s} q e p =
-    let g : Gives code count = two-sides code count (log8CountsPaper r) (q .answer) .1 e in
-    one-answer log8CodePaper log8CodeBack log8-code-home (log8-one count (log8CodePaper s) (accepted code) (p .answer) g) refl
-
--- both of them have it
-pub log8-ends : {code low high : ℕ} {x y : Log8Code} → Log8CountsPromise code (Log8Counts.Between low high) → Log8CodePromise low x → Log8CodePromise high y
-    → (x ≡ Log8Code.Code code) × (y ≡ Log8Code.Code code)
-log8-ends {code} {low} {high} q x y =
-    let reach : low ≤ high = q .answer .1 .most low (q .answer .0 .has) in
-    (log8-enclosed q (le-refl low, reach) x, log8-enclosed q (reach, le-refl high) y)
-
--- a byte that is answered by the word is no count's byte
-pub log8-none : {count code : ℕ} → Log8CountsPromise code Log8Counts.NoCount → Log8CodePromise count (Log8Code.Code code) → ⊥
-log8-none {count} q p = q .answer count (p .answer)

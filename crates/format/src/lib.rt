@@ -1,13 +1,11 @@
-// The plain count formats: a 16-bit float, an 8-bit float, a 24-bit integer and a logarithm byte, from count to code and back.
+// The plain count formats: a 16-bit float, an 8-bit float and a 24-bit integer, from count to code and back.
 ghost use mathlib.Core.Path.{_≡_};
 ghost use Prim.Native.Nat.{_-_, _*_, _/_, _^_, _<_};
 ghost use lib.Count.{leadingZeros};
 ghost use Rattle.ground.specs.Paper.{numberOf};
-ghost use Rattle.format.specs.Answers.{code16Paper, code8Paper, code24Paper, count24Paper, log8CodePaper};
+ghost use Rattle.format.specs.Answers.{code16Paper, code8Paper, code24Paper, count24Paper};
 ghost use Rattle.format.specs.Promise.{Float16CodePromise, Float16CountPromise, Float8CodePromise, Float8CountPromise};
-ghost use Rattle.format.specs.Promise.{Int24CodePromise, Int24CountPromise, Log8CodePromise, Log8CountsPromise};
-
-mod logarithm;
+ghost use Rattle.format.specs.Promise.{Int24CodePromise, Int24CountPromise};
 
 // The 16-bit float of a count, or the refusal of a count too large for it.
 pub enum Code16 {
@@ -33,18 +31,6 @@ pub enum Count24 {
     TooLarge,
 }
 
-// The logarithm byte of a count, or the refusal of a count too large for it.
-pub enum Log8Code {
-    Code(u8),
-    TooLarge,
-}
-
-// The smallest and the largest count that give a logarithm byte, or the word that no count does.
-pub enum Log8Counts {
-    Between(u64, u64),
-    NoCount,
-}
-
 // The first count that a 16-bit float is too small for.
 const LIMIT16: u64 = 134217728;
 
@@ -53,9 +39,6 @@ const LIMIT8: u64 = 17179869184;
 
 // The largest 24-bit integer.
 const LAST24: u32 = 16777215;
-
-// The last count that a logarithm byte is given for.
-const LAST_LOG8: u64 = 2147483647;
 
 // The 16-bit float of a count: the largest whose value is not above the count.
 pub fn float16_code(count: u64) -> Code16
@@ -128,38 +111,6 @@ pub fn int24_count(code: u32) -> Count24
     Count24::Count(code)
 }
 
-// The logarithm byte of a count: eight times the logarithm to base 2, and eight, rounded down; 0 of count 0.
-pub fn log8_code(count: u64) -> Log8Code
-    ensures { λ r. ⌜ Log8CodePromise count r ⌝ }
-{
-    if LAST_LOG8 < count {
-        return Log8Code::TooLarge;
-    }
-    if count == 0 {
-        return Log8Code::Code(0);
-    }
-    let bits = logarithm::bits(count);
-    let eighths = logarithm::eighths(logarithm::raised(count, bits));
-    let code = bits * 8 + eighths;
-    Log8Code::Code(code as u8)
-}
-
-// The smallest and the largest count that give a logarithm byte, or the word that no count does.
-pub fn log8_counts(code: u8) -> Log8Counts
-    ensures { λ r. ⌜ Log8CountsPromise code r ⌝ }
-{
-    let byte = code as u64;
-    if byte == 0 {
-        return Log8Counts::Between(0, 0);
-    }
-    let low = logarithm::first(byte);
-    let next = logarithm::first(byte + 1);
-    if next <= low {
-        return Log8Counts::NoCount;
-    }
-    Log8Counts::Between(low, next - 1)
-}
-
 // The number of a 16-bit float's refusal, 0 where it is given.
 pub fn code16_number(answer: Code16) -> u8
     ensures { λ r. ⌜ r ≡ numberOf (code16Paper answer) ⌝ }
@@ -197,16 +148,6 @@ pub fn count24_number(answer: Count24) -> u8
     match answer {
         Count24::Count(_) => 0,
         Count24::TooLarge => 12,
-    }
-}
-
-// The number of a logarithm byte's refusal, 0 where it is given.
-pub fn log8_code_number(answer: Log8Code) -> u8
-    ensures { λ r. ⌜ r ≡ numberOf (log8CodePaper answer) ⌝ }
-{
-    match answer {
-        Log8Code::Code(_) => 0,
-        Log8Code::TooLarge => 12,
     }
 }
 

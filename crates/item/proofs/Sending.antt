@@ -19,13 +19,15 @@ use Rattle.code.specs.Promise.{PackPromise}
 use Rattle.code.specs.declared.Packed.{Packed}
 use Rattle.code.specs.declared.Packed.the-variants as P
 use Rattle.pack.specs.Promise.{FieldPromise}
-use Rattle.format.specs.Answers.{code16Paper, code24Paper, log8CodePaper}
-use Rattle.format.specs.Promise.{Float16CodePromise, Int24CodePromise, Log8CodePromise}
+use Rattle.format.specs.Answers.{code16Paper, code24Paper}
+use Rattle.logarithm.specs.Answers.{log8CodePaper}
+use Rattle.format.specs.Promise.{Float16CodePromise, Int24CodePromise}
+use Rattle.logarithm.specs.Promise.{Log8CodePromise}
 use Rattle.format.specs.Floats.{takes-means}
-use Rattle.format.specs.Logarithms.{log8-means}
+use Rattle.logarithm.specs.Logarithms.{log8-means}
 use Rattle.format.specs.declared.Code16.{Code16}
 use Rattle.format.specs.declared.Code24.{Code24}
-use Rattle.format.specs.declared.Log8Code.{Log8Code}
+use Rattle.logarithm.specs.declared.Log8Code.{Log8Code}
 use Rattle.pages.specs.declared.Window.{Window}
 use Rattle.item.specs.Meaning.{fieldOf, windowOf, plainOf, sendsOf, compOf, formatBits, sendMeans, formatMeans}
 use Rattle.item.specs.Answers.{sentPaper}

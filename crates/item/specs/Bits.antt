@@ -19,6 +19,7 @@ use Rattle.code.specs.Meaning.{codeOf, greatestPlace, largest, placeMeans, shap
 use Rattle.code.specs.Shapes.{none, Valid, longestCode, bits-few as code-few}
 use Rattle.code.specs.Theorems.{allBits-shape}
 use Rattle.format.specs.Meaning as format
+use Rattle.logarithm.specs.Meaning as logarithm
 use Rattle.item.specs.Meaning.{sendsOf, compOf, formatBits, itemBits, formatMeans, sendMeans}
 
 -- the most bits that an item is sent in, 29: those of the longest packed code
@@ -49,10 +50,10 @@ format-fine comp r =
     pick-elim (λ (p : Paper ℕ). Fine (mapped (toBits 16) p)) (ltb r (2 ^ 27)) (accepted (format.codeOf 12 r)) (refused 12)
     (λ _. fixed-fine 16 (format.codeOf 12 r) (omega arith)) (λ _. refl))
     (λ _.
-    pick-elim Fine (eqb comp 1) (mapped (toBits 8) (format.log8Means r)) _
+    pick-elim Fine (eqb comp 1) (mapped (toBits 8) (logarithm.log8Means r)) _
     (λ _.
-    pick-elim (λ (p : Paper ℕ). Fine (mapped (toBits 8) p)) (leb r 2147483647) (accepted (format.log8Of r)) (refused 12)
-    (λ _. fixed-fine 8 (format.log8Of r) (omega arith)) (λ _. refl))
+    pick-elim (λ (p : Paper ℕ). Fine (mapped (toBits 8) p)) (leb r 2147483647) (accepted (logarithm.log8Of r)) (refused 12)
+    (λ _. fixed-fine 8 (logarithm.log8Of r) (omega arith)) (λ _. refl))
     (λ _.
     pick-elim Fine (eqb comp 2) (mapped (toBits 24) (format.int24Means r)) _
     (λ _.

@@ -9,7 +9,7 @@ use Rattle.ground.specs.Bits.{toBits}
 use Rattle.ground.specs.Outcome.{accept, refuse}
 use Rattle.ground.specs.Paper.{Paper, accepted, refused}
 use Rattle.code.specs.Meaning.{shapeOf, leadingIn, bytesFrom, bitsThatCount}
-use Rattle.format.specs.Meaning.{twiceToEighth}
+use Rattle.logarithm.specs.Meaning.{twiceToEighth}
 use Rattle.item.specs.Meaning.{windowOf, plainOf, addsOf, sendsOf, compOf, formatBits, itemBits, bytesOfBits, sendMeans}
 
 -- ---- the fields

@@ -11,7 +11,8 @@ use Rattle.ground.specs.Choice.{pick}
 use Rattle.ground.specs.Outcome.{Outcome, accept, onwardTo}
 use Rattle.ground.specs.Paper.{Paper, accepted, refused, mapped}
 use Rattle.code.specs.Meaning.{codeOf, largest, padded, bytesFrom, placeMeans}
-use Rattle.format.specs.Meaning.{codeMeans, log8Means, int24Means}
+use Rattle.format.specs.Meaning.{codeMeans, int24Means}
+use Rattle.logarithm.specs.Meaning.{log8Means}
 use Rattle.pages.specs.declared.Window.{Window}
 
 -- ---- the fields of an item's word

@@ -3,7 +3,7 @@ use crate::Sent;
 use code::Packed;
 use format::Code16;
 use format::Code24;
-use format::Log8Code;
+use logarithm::Log8Code;
 ghost use mathlib.Core.Path.{_≡_};
 ghost use Prim.Native.Nat.{_≤_};
 ghost use Rattle.ground.specs.Bits.{toBits};
@@ -36,7 +36,7 @@ fn send_float(buffer: &mut [u8], at: u64, result: u64) -> Sent
 fn send_logarithm(buffer: &mut [u8], at: u64, result: u64) -> Sent
     ensures { λ r. ⌜ FormatPromise (now (buffer .entry)) at 1 result r (now (buffer .exit)) ⌝ }
 {
-    let logarithm = format::log8_code(result);
+    let logarithm = logarithm::log8_code(result);
     match logarithm {
         Log8Code::Code(byte) => put(buffer, at, byte as u32, 8),
         Log8Code::TooLarge => Sent::TooLarge,

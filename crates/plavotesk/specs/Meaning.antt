@@ -10,7 +10,7 @@ use Rattle.ground.specs.Choice.{pick}
 use Rattle.ground.specs.Outcome.{Outcome}
 use Rattle.ground.specs.Paper.{Paper, accepted, refusal}
 use Rattle.packet.specs.Meaning.{FoundValues, payloadMeans, payloadStart}
-use Rattle.format.specs.Meaning.{Giving, between, noCount}
+use Rattle.logarithm.specs.Meaning.{Giving, between, noCount}
 use Rattle.pages.specs.declared.Window.{Window}
 use Rattle.histogram.specs.Meaning.{Value, done, new, again}
 use Rattle.packet_ask.specs.Meaning.{PacketValue, newPacket, packetAgain}

@@ -10,7 +10,7 @@ use Rattle.message.specs.Meaning.{ReadValues}
 use Rattle.code.specs.Meaning.{UnpackValues}
 use Rattle.format.specs.Meaning.{floatValue}
 use Rattle.format.specs.Codes.{takes-one}
-use Rattle.format.specs.Logarithms.{log8-one, given-one}
+use Rattle.logarithm.specs.Logarithms.{log8-one, given-one}
 use Rattle.cadence.specs.Sentence.{level-one}
 use Rattle.item.specs.Inputs.{Inputs}
 use Rattle.pages.specs.declared.Window.{Window}

@@ -10,7 +10,8 @@ use Rattle.packet.specs.Meaning.{FoundValues, HeaderValues, findMeans, headerMe
 use Rattle.message.specs.Meaning.{ReadValues, readMeans, writeMeans as messageMeans}
 use Rattle.code.specs.Meaning.{UnpackValues, packMeans, unpackMeans}
 use Rattle.rate.specs.Meaning.{ReadingValues, RateValues, readingMeans, rateMeans}
-use Rattle.format.specs.Meaning.{floatValue, Takes, int24Means, Giving, Log8Takes, Log8Given}
+use Rattle.format.specs.Meaning.{floatValue, Takes, int24Means}
+use Rattle.logarithm.specs.Meaning.{Giving, Log8Takes, Log8Given}
 use Rattle.cadence.specs.Meaning.{Begins, Ends, secondsMeans}
 use Rattle.item.specs.Inputs.{Inputs}
 use Rattle.pages.specs.declared.Window.{Window}

@@ -3,8 +3,8 @@
 use mathlib.Core.Path.{ap, _∙_}
 use Rattle.ground.specs.Bits.{toBits}
 use Rattle.ground.specs.Paper.{mapped}
-use Rattle.format.specs.Answers.{log8CodePaper}
-use Rattle.format.specs.declared.Log8Code.{Log8Code}
+use Rattle.logarithm.specs.Answers.{log8CodePaper}
+use Rattle.logarithm.specs.declared.Log8Code.{Log8Code}
 use Rattle.item.proofs.Sending.{logarithm-known, format-put, format-large}
 use borrow.Author.Needs.{needs}
 use Rattle.item.proofs.formats.send_logarithm.Statement.{statement}

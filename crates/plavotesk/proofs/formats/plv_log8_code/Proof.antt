@@ -1,6 +1,6 @@
 -- `plv_log8_code` meets its contract: the code where it is given.
 -- Assumes nothing.
-use Rattle.format.specs.Answers.{log8CodePaper}
+use Rattle.logarithm.specs.Answers.{log8CodePaper}
 use Rattle.plavotesk.proofs.Telling.{needs, refl, accepts-so, refuses-so}
 use Rattle.plavotesk.proofs.formats.plv_log8_code.Statement.{statement}
 use Rattle.plavotesk.proofs.formats.plv_log8_code.Tie as tie

@@ -2,9 +2,9 @@
 -- Assumes nothing.
 use mathlib.Core.Path.{_≡_, sym, ap}
 use Prim.Native.Nat.{ℕ}
-use Rattle.format.specs.declared.Log8Counts.{Log8Counts}
-use Rattle.format.specs.Answers.{log8CountsPaper}
-use Rattle.format.specs.Promise as format
+use Rattle.logarithm.specs.declared.Log8Counts.{Log8Counts}
+use Rattle.logarithm.specs.Answers.{log8CountsPaper}
+use Rattle.logarithm.specs.Promise as logarithm
 use Rattle.plavotesk.specs.Meaning.{countEnds}
 use Rattle.plavotesk.specs.Promise.{Log8CountsPromise}
 use Rattle.plavotesk.proofs.Telling.{needs}
@@ -12,7 +12,7 @@ use Rattle.plavotesk.proofs.formats.plv_log8_counts.Statement.{statemen
 use Rattle.plavotesk.proofs.formats.plv_log8_counts.Tie as tie
 
 -- the case that was met, told by its two counts
-told : {code : ℕ} {a s : Log8Counts} → format.Log8CountsPromise code a → a ≡ s → Log8CountsPromise code (countEnds (log8CountsPaper s))
+told : {code : ℕ} {a s : Log8Counts} → logarithm.Log8CountsPromise code a → a ≡ s → Log8CountsPromise code (countEnds (log8CountsPaper s))
 told {a = a} p e = record { answer = log8CountsPaper a; holds = p .answer; outcome = sym (ap (λ (x : Log8Counts). countEnds (log8CountsPaper x)) e) }
 
 returns : tie.Need-returns

@@ -1,12 +1,12 @@
--- `format::logarithm::eighths` meets its contract. The loop's invariant: of the eighths looked at so far, those that are reached.
+-- `logarithm::steps::eighths` meets its contract. The loop's invariant: of the eighths looked at so far, those that are reached.
 -- Assumes nothing.
 use mathlib.Core.Path.{_≡_, subst}
 use Prim.Native.Nat.{ℕ, _-_, _≤_}
 use native.Mathlib.Omega.{arith}
 use borrow.Author.Needs.{needs}
-use Rattle.format.specs.Eighths.{Eighths, eighths-none, eighths-more}
-use Rattle.format.proofs.logarithm.eighths.Statement.{statement}
-use Rattle.format.proofs.logarithm.eighths.Tie as tie
+use Rattle.logarithm.specs.Eighths.{Eighths, eighths-none, eighths-more}
+use Rattle.logarithm.proofs.steps.eighths.Statement.{statement}
+use Rattle.logarithm.proofs.steps.eighths.Tie as tie
 
 abbrev Inv-loop : tie.InvT-loop
 Inv-loop count reached₀ eighth₀ reached eighth = (eighth ≤ 8) × Eighths eighth count reached

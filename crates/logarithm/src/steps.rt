@@ -3,8 +3,8 @@ ghost use mathlib.Core.Path.{_≡_};
 ghost use Prim.Native.Nat.{_+_, _-_, _*_, _^_, _<_, _≤_};
 ghost use lib.Dec.{leb};
 ghost use Rattle.ground.specs.Choice.{pick};
-ghost use Rattle.format.specs.Meaning.{twiceToEighth};
-ghost use Rattle.format.specs.Eighths.{Bits, Eighths, First};
+ghost use Rattle.logarithm.specs.Meaning.{twiceToEighth};
+ghost use Rattle.logarithm.specs.Eighths.{Bits, Eighths, First};
 
 // How many bits a count has.
 pub(crate) fn bits(count: u64) -> u64

@@ -1,9 +1,9 @@
--- `format::logarithm::reaches` meets its contract: a count reaches the power where it is not below the first that does.
+-- `logarithm::steps::reaches` meets its contract: a count reaches the power where it is not below the first that does.
 -- Assumes nothing.
 use borrow.Author.Needs.{needs}
-use Rattle.format.specs.Eighths.{first-reached, first-missed}
-use Rattle.format.proofs.logarithm.reaches.Statement.{statement}
-use Rattle.format.proofs.logarithm.reaches.Tie as tie
+use Rattle.logarithm.specs.Eighths.{first-reached, first-missed}
+use Rattle.logarithm.proofs.steps.reaches.Statement.{statement}
+use Rattle.logarithm.proofs.steps.reaches.Tie as tie
 
 returns : tie.Need-returns
 returns c = rw (first-reached (c .before .root .ensures) (c .if1 .taken))

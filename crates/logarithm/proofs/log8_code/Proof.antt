@@ -1,13 +1,13 @@
--- `format::log8_code` meets its contract: eight times the bits of the count, and the eighths of a doubling that it reaches.
+-- `logarithm::log8_code` meets its contract: eight times the bits of the count, and the eighths of a doubling that it reaches.
 -- Assumes nothing.
 use mathlib.Core.Path.{sym, subst}
 use Prim.Native.Nat.{ℕ, _≤_, _<_}
 use borrow.Author.Needs.{needs}
-use Rattle.format.specs.Meaning.{Gives}
-use Rattle.format.specs.Logarithms.{nought-given}
-use Rattle.format.specs.Eighths.{Eighths, bits-raised, bits-give}
-use Rattle.format.proofs.log8_code.Statement.{statement}
-use Rattle.format.proofs.log8_code.Tie as tie
+use Rattle.logarithm.specs.Meaning.{Gives}
+use Rattle.logarithm.specs.Logarithms.{nought-given}
+use Rattle.logarithm.specs.Eighths.{Eighths, bits-raised, bits-give}
+use Rattle.logarithm.proofs.log8_code.Statement.{statement}
+use Rattle.logarithm.proofs.log8_code.Tie as tie
 
 returns-2 : tie.Need-returns-2
 returns-2 c = record { answer = subst (λ (n : ℕ). Gives 0 n) (sym (c .if2 .taken)) (nought-given .0 .has) }

@@ -1,13 +1,13 @@
--- `format::logarithm::first` meets its contract: the first count of so many eighths, halved and rounded up.
+-- `logarithm::steps::first` meets its contract: the first count of so many eighths, halved and rounded up.
 -- Assumes nothing.
 use mathlib.Core.Path.{_≡_, subst}
 use Prim.Native.Nat.{ℕ, _+_, _-_, _*_, _/_, _%_, _^_}
 use native.Mathlib.Nat.{div-le-self}
 use native.Mathlib.Omega.{arith}
 use borrow.Author.Needs.{needs}
-use Rattle.format.specs.Eighths.{First, first-some, first-halved}
-use Rattle.format.proofs.logarithm.first.Statement.{statement}
-use Rattle.format.proofs.logarithm.first.Tie as tie
+use Rattle.logarithm.specs.Eighths.{First, first-some, first-halved}
+use Rattle.logarithm.proofs.steps.first.Statement.{statement}
+use Rattle.logarithm.proofs.steps.first.Tie as tie
 
 sub-before : tie.Need-sub-before
 sub-before c = first-some (c .root .ensures)

@@ -1,14 +1,14 @@
--- `format::logarithm::root` meets its contract: each constant reaches its power, and the count before it does not, by computing.
+-- `logarithm::steps::root` meets its contract: each constant reaches its power, and the count before it does not, by computing.
 -- Assumes nothing.
 use mathlib.Core.Path.{_≡_, refl}
 use mathlib.Core.Bool.{true}
 use Prim.Native.Nat.{ℕ, _+_, zero-le}
 use native.Mathlib.Nat.{le-antisymm, le-of-suc-le-suc}
 use Rattle.ground.specs.Questions.{past}
-use Rattle.format.specs.Meaning.{twiceToEighth}
-use Rattle.format.specs.Eighths.{First, isFirst, first-computed}
-use Rattle.format.proofs.logarithm.root.Statement.{statement}
-use Rattle.format.proofs.logarithm.root.Tie as tie
+use Rattle.logarithm.specs.Meaning.{twiceToEighth}
+use Rattle.logarithm.specs.Eighths.{First, isFirst, first-computed}
+use Rattle.logarithm.proofs.steps.root.Statement.{statement}
+use Rattle.logarithm.proofs.steps.root.Tie as tie
 
 -- an arm answers the first count that reaches its power
 at : {i r : ℕ} (n : ℕ) → i ≡ n → isFirst (256 + n) r ≡ true → First (256 + i) r

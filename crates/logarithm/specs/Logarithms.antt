@@ -13,8 +13,9 @@ use borrow.Author.Tests.{leb-true, leb-false, le-leb}
 use Rattle.ground.specs.Choice.{pick-elim}
 use Rattle.ground.specs.Greatest.{Greatest, greatest-one, greatest-is, least-one}
 use Rattle.ground.specs.Paper.{Paper, accepted, refusal, refused}
 use Rattle.format.specs.Codes.{takes-one, takes-grows, takes-below}
-use Rattle.format.specs.Meaning.{Largest, Takes, twiceToEighth, Log8, Gives, Log8Takes, Giving, between, noCount, Log8Given, log8Of, log8Means}
+use Rattle.format.specs.Meaning.{Largest, Takes}
+use Rattle.logarithm.specs.Meaning.{twiceToEighth, Log8, Gives, Log8Takes, Giving, between, noCount, Log8Given, log8Of, log8Means}
 
 -- ---- powers
 

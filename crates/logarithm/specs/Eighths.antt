@@ -15,8 +15,8 @@ use borrow.Author.Tests.{leb-true, ltb-true, leb-false, le-leb, lt-leb}
 use Rattle.ground.specs.Choice.{pick, pick-elim}
 use Rattle.ground.specs.Greatest.{Greatest, Least}
 use Rattle.ground.specs.Questions.{both-hold}
-use Rattle.format.specs.Meaning.{twiceToEighth, Gives, between, noCount, Log8Given}
-use Rattle.format.specs.Logarithms.{Reached, reached-grows, reached-doubled, doubled-reached, reached-nothing, reached-limit, unreached, eighth-grows}
+use Rattle.logarithm.specs.Meaning.{twiceToEighth, Gives, between, noCount, Log8Given}
+use Rattle.logarithm.specs.Logarithms.{Reached, reached-grows, reached-doubled, doubled-reached, reached-nothing, reached-limit, unreached, eighth-grows}
 
 -- ---- a count by its bits and eighths
 

@@ -1,13 +1,13 @@
--- `format::log8_counts` meets its contract: from the first count of the byte to the one before the first of the next.
+-- `logarithm::log8_counts` meets its contract: from the first count of the byte to the one before the first of the next.
 -- Assumes nothing.
 use mathlib.Core.Path.{sym, subst}
 use Prim.Native.Nat.{ℕ}
 use borrow.Author.Needs.{needs}
-use Rattle.format.specs.Meaning.{Log8Given, between}
-use Rattle.format.specs.Logarithms.{nought-given}
-use Rattle.format.specs.Eighths.{none-given, ends-given}
-use Rattle.format.proofs.log8_counts.Statement.{statement}
-use Rattle.format.proofs.log8_counts.Tie as tie
+use Rattle.logarithm.specs.Meaning.{Log8Given, between}
+use Rattle.logarithm.specs.Logarithms.{nought-given}
+use Rattle.logarithm.specs.Eighths.{none-given, ends-given}
+use Rattle.logarithm.proofs.log8_counts.Statement.{statement}
+use Rattle.logarithm.proofs.log8_counts.Tie as tie
 
 returns : tie.Need-returns
 returns c = record { answer = subst (λ (v : ℕ). Log8Given v (between 0 0)) (sym (c .if1 .taken)) nought-given }

@@ -1,10 +1,10 @@
--- `format::logarithm::bits` meets its contract: what the leading zeros leave of 64.
+-- `logarithm::steps::bits` meets its contract: what the leading zeros leave of 64.
 -- Assumes nothing.
 use native.Mathlib.Omega.{arith}
 use lib.Count.{leading-le}
-use Rattle.format.specs.Eighths.{bits-leading}
-use Rattle.format.proofs.logarithm.bits.Statement.{statement}
-use Rattle.format.proofs.logarithm.bits.Tie as tie
+use Rattle.logarithm.specs.Eighths.{bits-leading}
+use Rattle.logarithm.proofs.steps.bits.Statement.{statement}
+use Rattle.logarithm.proofs.steps.bits.Tie as tie
 
 cast-result : tie.Need-cast-result
 cast-result c = omega (arith, leading-le 64 (c .args .count))
