@@ -10,5 +10,6 @@ pub mod Positions
 pub mod OneOutcome
 pub mod Theorems
 pub mod Ends
+pub mod Missing
 pub mod OldReader
 pub mod OnFile

@@ -1,14 +1,15 @@
 -- Packed codes, in document 01's words and order: a number has a shape, a shape has bits, bits are parsed to a shape, a shape has a value.
 -- The limits follow from one number, the greatest place of a leading one (`top`), which is a parameter of what is read and of what is valid.
 -- Assumes nothing.
-use mathlib.Core.Bool.{Bool, true, _&&_}
+use mathlib.Core.Bool.{Bool, true, false, _&&_}
 use mathlib.Core.List.{List, [], _∷_, _++_}
 use Prim.Native.Nat.{ℕ, zero, suc, _+_, _*_, _-_, _/_, _%_, _^_, max}
 use lib.IntN.{ℤ, pos, negsuc, negℤ, natAbs}
 use lib.ListN.{length, take, drop, replicate}
 use lib.Dec.{ltb, leb, eqb}
 use Rattle.ground.specs.Choice.{pick}
-use Rattle.ground.specs.Paper.{Paper, accepted, refused, mapped}
+use Rattle.ground.specs.Paper.{Paper, accepted, refused, refusedWith, mapped}
+use Rattle.ground.specs.Greatest.{leastFrom}
 use Rattle.ground.specs.Outcome.{Outcome, accept, refuse}
 use Rattle.ground.specs.Bits.{toBits, bitsOf}
 use Rattle.ground.specs.Putting.{put}
@@ -36,6 +37,10 @@ onesOf k = (k - 1) / 2
 -- "A reader that has seen" 13 "ones after the sign refuses": 2026-06, "11 now comes at the 13th one"; the longest run of ones that is taken
 abbrev pub longestRun : ℕ → ℕ
 longestRun top = onesOf top
+
+-- the bits of the longest code: two for each one of the longest run, and five; 2026-06, "29 in all"
+abbrev pub longestCode : ℕ → ℕ
+longestCode top = 2 * longestRun top + 5
 
 -- "m = 0 is `0`", and with drop 3 "m of 0 to 3 is `0`": the least magnitude that has a code of its own
 abbrev pub leastCoded : ℕ → ℕ
@@ -196,6 +201,22 @@ parse top d (zero ∷ l) = found nought l
 parse top d (suc b ∷ []) = ranOut
 parse top d (suc b ∷ (s ∷ l)) = afterSign top d s 0 l
 
+-- whether what was found is an accepted code
+abbrev pub isCode : Parsed → Bool
+isCode (found shape rest) = true
+isCode ranOut = false
+isCode redundantZero = false
+isCode runTooLong = false
+
+-- whether some list of so many bits, put after what was read, parses to a shape
+unfoldable pub completed : ℕ → ℕ → List ℕ → ℕ → Bool
+completed top d read zero = isCode (parse top d read)
+completed top d read (suc n) = pick (completed top d (read ++ (0 ∷ [])) n) true (completed top d (read ++ (1 ∷ [])) n)
+
+-- 2026-02, "the least number of further bits with which some accepted code could be completed from what was read"; no more than the longest code has
+unfoldable pub missing : ℕ → ℕ → List ℕ → ℕ
+missing top d read = leastFrom (completed top d read) (longestCode top) 0
+
 -- "Bits from position 2^63 on count as past the end": the bits that count
 unfoldable pub bitsThatCount : List ℕ → List ℕ
 bitsThatCount bytes = take (2 ^ 63) (bitsOf bytes)
@@ -211,21 +232,29 @@ pub record ShapeValues : Type 0 where
 abbrev pub valuesOf : ℕ → Shape → ℕ → ShapeValues
 valuesOf d shape next = record { sign = sign shape; magnitude = magnitude d shape; error = error d shape; next = next }
 
--- the answer to what was found at a position: 9, 10, 11 as bits arrive
-abbrev pub answerOf : ℕ → ℕ → Parsed → Paper ShapeValues
-answerOf d at (found shape rest) = accepted (valuesOf d shape (at + length (bits d shape)))
-answerOf d at ranOut = refused 9
-answerOf d at redundantZero = refused 10
-answerOf d at runTooLong = refused 11
+-- the answer to what was found in the bits from a position on: 9, 10, 11 as bits arrive; 2026-02, "Refusal 9 shall carry the least number of further bits"
+abbrev pub answerOf : ℕ → ℕ → ℕ → List ℕ → Parsed → Paper ShapeValues
+answerOf top d at read (found shape rest) = accepted (valuesOf d shape (at + length (bits d shape)))
+answerOf top d at read ranOut = refusedWith 9 (missing top d read)
+answerOf top d at read redundantZero = refused 10
+answerOf top d at read runTooLong = refused 11
 
--- "A bit position past the end is refused by 9 on reading"; at the end itself bits run out as they arrive, by 9 too
-abbrev pub positionMeans : List ℕ → ℕ → ℕ → Paper ShapeValues
-positionMeans bytes at d =
-    pick (ltb (length (bitsThatCount bytes)) at) (refused 9) (answerOf d at (parse greatestPlace d (drop at (bitsThatCount bytes))))
+-- the answer to the bits from a position on
+abbrev pub answerTo : ℕ → ℕ → ℕ → List ℕ → Paper ShapeValues
+answerTo top d at read = answerOf top d at read (parse top d read)
+
+-- "at the end exactly, under 2^63," bits run out as they arrive; "any other position past the end"
+abbrev pub pastEnd : ℕ → ℕ → Bool
+pastEnd end at = pick (ltb end at) true (leb (2 ^ 63) at)
+
+-- "A bit position past the end is refused by 9 on reading"; 2026-02, "from any other position past the end, 0"
+abbrev pub positionMeans : ℕ → List ℕ → ℕ → ℕ → Paper ShapeValues
+positionMeans top bytes at d =
+    pick (pastEnd (length (bitsThatCount bytes)) at) (refusedWith 9 0) (answerTo top d at (drop at (bitsThatCount bytes)))
 
 -- reading a shape: "drop 8 first, then 9, 10, 11 as bits arrive"
 abbrev pub shapeMeans : List ℕ → ℕ → ℕ → Paper ShapeValues
-shapeMeans bytes at d = pick (dropKnown d) (positionMeans bytes at d) (refused 8)
+shapeMeans bytes at d = pick (dropKnown d) (positionMeans greatestPlace bytes at d) (refused 8)
 
 -- an accepted reading: the number, and "the next position"
 pub record UnpackValues : Type 0 where

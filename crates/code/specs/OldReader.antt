@@ -4,14 +4,12 @@ use mathlib.Core.Path.{_≡_, refl}
 use mathlib.Core.Bool.{_&&_}
 use mathlib.Core.List.{List}
 use Prim.Native.Nat.{ℕ}
-use lib.Dec.{ltb, leb}
+use lib.Dec.{leb}
 use lib.IntN.{ℤ, natAbs}
-use lib.ListN.{length, drop}
 use Rattle.ground.specs.Choice.{pick}
 use Rattle.ground.specs.Paper.{Paper, refused, mapped}
 use Rattle.ground.specs.Outcome.{Outcome, refuse}
-use Rattle.code.specs.Meaning.{ShapeValues, UnpackValues, largestTo, longestRun, dropKnown, codeOf, parse, bitsThatCount, answerOf, numberRead}
-use Rattle.code.specs.Meaning.{placeMeans}
+use Rattle.code.specs.Meaning.{ShapeValues, UnpackValues, largestTo, longestRun, dropKnown, codeOf, positionMeans, numberRead, placeMeans}
 
 -- the greatest place of a leading one, before
 abbrev pub oldPlace : ℕ
@@ -25,12 +23,9 @@ oldLargest = largestTo oldPlace
 pub old-limits : (oldLargest ≡ 33554431) × (longestRun oldPlace ≡ 11)
 old-limits = (refl, refl)
 
--- reading a shape, before: "drop 8 first, then 9, 10, 11 as bits arrive"
+-- reading a shape, before: "drop 8 first, then 9, 10, 11 as bits arrive"; what 9 carries since 2026-02 is told by the codes that were accepted before
 abbrev pub oldShapeMeans : List ℕ → ℕ → ℕ → Paper ShapeValues
-oldShapeMeans bytes at d =
-    pick (dropKnown d)
-    (pick (ltb (length (bitsThatCount bytes)) at) (refused 9) (answerOf d at (parse oldPlace d (drop at (bitsThatCount bytes)))))
-    (refused 8)
+oldShapeMeans bytes at d = pick (dropKnown d) (positionMeans oldPlace bytes at d) (refused 8)
 
 -- reading a number, before
 abbrev pub oldUnpackMeans : List ℕ → ℕ → ℕ → Paper UnpackValues

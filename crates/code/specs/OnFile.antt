@@ -12,18 +12,22 @@ use lib.Dec.{ltb, leb}
 use borrow.Author.Tests.{lt-ltb, le-ltb, ltb-true, le-leb, leb-true}
 use Rattle.ground.specs.Choice.{pick}
 use Rattle.ground.specs.Questions.{both-ways, both-hold}
-use Rattle.ground.specs.Paper.{Paper, accepted, refused, onward, mapped, refused-not}
+use Rattle.ground.specs.Paper.{Paper, accepted, refused, refusedWith, onward, mapped, refused-not}
 use Rattle.ground.specs.Outcome.{Outcome, accept, refuse, outcomeOf}
 use Rattle.ground.specs.Bits.{toBits}
-use Rattle.code.specs.Meaning.{Parsed, ranOut, runTooLong, ShapeValues, UnpackValues, greatestPlace, largest, longestRun, leastCoded, ledOf, shapeOf}
-use Rattle.code.specs.Meaning.{coded, bits, signOf, shapeOfNumber, codeOf, ledThen, afterRun, afterSign, parse, bitsThatCount, answerOf, shapeMeans}
+use Rattle.code.specs.Meaning.{Parsed, found, ranOut, redundantZero, runTooLong, ShapeValues, UnpackValues, greatestPlace, largest, longestRun}
+use Rattle.code.specs.Meaning.{leastCoded, ledOf, shapeOf, coded, bits, signOf, shapeOfNumber, codeOf, ledThen, afterRun, afterSign, parse}
+use Rattle.code.specs.Meaning.{bitsThatCount, pastEnd, answerOf, answerTo, shapeMeans}
 use Rattle.code.specs.Meaning.{numberRead, unpackMeans, dropKnown, placeMeans, packMeans, bytesWith}
 use Rattle.code.specs.OldReader.{oldPlace, oldLargest, oldShapeMeans, oldUnpackMeans, oldPackMeans}
 use Rattle.code.specs.Answers.{packedPaper, unpackedPaper}
 use Rattle.code.specs.Promise.{PackPromise, UnpackPromise}
 use Rattle.code.specs.declared.Packed.{Packed}
 use Rattle.code.specs.declared.Unpacked.{Unpacked}
-use Rattle.code.specs.Shapes.{Drop, none, three, drop-of}
+use Rattle.code.specs.BitLists.{allBits, allBits-drop}
+use Rattle.code.specs.Positions.{length-bitsThatCount, allBits-bitsThatCount, not-past}
+use Rattle.code.specs.Shapes.{Drop, none, three, drop-of, bits-some}
+use Rattle.code.specs.Missing.{missing-computed}
 use Rattle.code.specs.Magnitudes.{places, leading-is, number-valid}
 use Rattle.code.specs.Theorems.{stands-first, put-stands, put-counts, packed-at, allBits-shape}
 
@@ -71,18 +75,34 @@ parse-stands low high d (suc b ∷ (s ∷ l)) more = sign-stands low high d s mo
 
 -- ---- reading
 
+-- the answers to the same bits: a greater range completes no code with fewer bits, so the number that 9 carries stands too
+answers-stand : (d at : ℕ) (l : List ℕ) → Drop d → allBits l
+    → (answerTo oldPlace d at l ≡ refused 11) ⊎ (answerTo oldPlace d at l ≡ answerTo greatestPlace d at l)
+answers-stand d at l dr ok =
+    ⊎-elim (λ e. inl (ap (answerOf oldPlace d at l) e))
+    (λ e. inr (same (parse oldPlace d l) refl (sym e) ∙ ap (answerOf greatestPlace d at l) e))
+    (parse-stands oldPlace greatestPlace d l (omega arith))
+  where
+    same : (p : Parsed) → parse oldPlace d l ≡ p → parse greatestPlace d l ≡ p → answerOf oldPlace d at l p ≡ answerOf greatestPlace d at l p
+    same (found shape rest) e f = refl
+    same ranOut e f =
+        ap (λ (n : ℕ). refusedWith 9 n)
+        (missing-computed oldPlace d dr (omega arith) l ok e ∙ sym (missing-computed greatestPlace d dr (omega arith) l ok f))
+    same redundantZero e f = refl
+    same runTooLong e f = refl
+
 -- every answer of the old reader but 11 is today's, refusals too
 pub shape-stands : (bytes : List ℕ) (at d : ℕ) → (oldShapeMeans bytes at d ≡ refused 11) ⊎ (oldShapeMeans bytes at d ≡ shapeMeans bytes at d)
-shape-stands bytes at d =
-    go (dropKnown d) (ltb (length (bitsThatCount bytes)) at) (parse-stands oldPlace greatestPlace d (drop at (bitsThatCount bytes)) (omega arith))
+shape-stands bytes at d = go (dropKnown d) refl (pastEnd (length (bitsThatCount bytes)) at)
   where
-    go : (a b : Bool) {p q : Parsed} → Stands p q
-        → (pick a (pick b (refused 9) (answerOf d at p)) (refused 8) ≡ refused 11)
-        ⊎ (pick a (pick b (refused 9) (answerOf d at p)) (refused 8) ≡ pick a (pick b (refused 9) (answerOf d at q)) (refused 8))
-    go false b s = inr refl
-    go true true s = inr refl
-    go true false (inl e) = inl (ap (answerOf d at) e)
-    go true false (inr e) = inr (ap (answerOf d at) e)
+    told : ℕ → Bool → Bool → Paper ShapeValues
+    told top a b = pick a (pick b (refusedWith 9 0) (answerTo top d at (drop at (bitsThatCount bytes)))) (refused 8)
+
+    go : (a : Bool) → dropKnown d ≡ a → (b : Bool) → (told oldPlace a b ≡ refused 11) ⊎ (told oldPlace a b ≡ told greatestPlace a b)
+    go false t b = inr refl
+    go true t true = inr refl
+    go true t false =
+        answers-stand d at (drop at (bitsThatCount bytes)) (drop-of d t) (allBits-drop at (bitsThatCount bytes) (allBits-bitsThatCount bytes))
 
 -- what was accepted, and not refused, is accepted still
 accepted-stands : {A : Type 0} {old new : Paper A} {n : ℕ} {x : A} → (old ≡ refused n) ⊎ (old ≡ new) → old ≡ accepted x → new ≡ accepted x
@@ -186,12 +206,15 @@ written-too-long buffer at v d over e =
     let bytes : List ℕ = bytesWith buffer at code in
     let fine = allBits-shape d (shapeOfNumber d v) (number-valid greatestPlace places d v dr (p .small)) in
     let room : at + length code ≤ length (bitsThatCount bytes) = omega (arith, p .room, put-counts buffer at code (p .room) fine) in
-    let inside : ltb (length (bitsThatCount bytes)) at ≡ false = le-ltb (length (bitsThatCount bytes)) at (omega arith) in
+    let some = bits-some d (shapeOfNumber d v) in
+    let inside : pastEnd (length (bitsThatCount bytes)) at ≡ false
+    = not-past (length (bitsThatCount bytes)) at (omega arith) (omega (arith, length-bitsThatCount bytes)) in
     let l : List ℕ = drop at (bitsThatCount bytes) in
+    let rest : List ℕ = drop (length code) l in
     ap (λ (k : List ℕ). oldUnpackMeans k at d) (p .leaves)
-    ∙ ap₂ (λ (a b : Bool). mapped numberRead (pick a (pick b (refused 9) (answerOf d at (parse oldPlace d l))) (refused 8))) (p .known) inside
-    ∙ ap (λ (k : List ℕ). mapped numberRead (answerOf d at (parse oldPlace d k))) (stands-first bytes at code room (put-stands buffer at code (p .room) fine))
-    ∙ ap (λ (q : Parsed). mapped numberRead (answerOf d at q)) (new-too-long d v (drop (length code) l) dr over (p .small))
+    ∙ ap₂ (λ (a b : Bool). mapped numberRead (pick a (pick b (refusedWith 9 0) (answerTo oldPlace d at l)) (refused 8))) (p .known) inside
+    ∙ ap (λ (k : List ℕ). mapped numberRead (answerTo oldPlace d at k)) (stands-first bytes at code room (put-stands buffer at code (p .room) fine))
+    ∙ ap (λ (q : Parsed). mapped numberRead (answerOf oldPlace d at (code ++ rest) q)) (new-too-long d v rest dr over (p .small))
 
 -- ---- "11 now comes at the 13th one, or after 12 ones, a zero and a one"
 

@@ -8,10 +8,10 @@ use native.Mathlib.Omega.{arith}
 use lib.ListN.{length, length-append, length-take, length-drop, take, drop, getD, take-append-drop, List·getD-append}
 use lib.Seq.{getD-take, getD-append-add, length-take-le}
 use lib.Dec.{ltb}
-use borrow.Author.Tests.{ltb-true, ltb-false}
+use borrow.Author.Tests.{le-ltb, lt-leb, ltb-true, ltb-false}
 use Rattle.ground.specs.Bytes.{Bytes}
 use Rattle.ground.specs.Bits.{toBits, bitsOf}
-use Rattle.code.specs.Meaning.{bitsThatCount, fromBits, bytesFrom}
+use Rattle.code.specs.Meaning.{bitsThatCount, fromBits, bytesFrom, pastEnd}
 use Rattle.code.specs.BitLists.{allBits, allBits-take, allBits-drop, allBits-bitsOf, length-bitsOf, fromBits-toBits, toBits-fromBits}
 
 -- eight bits a byte count, but none from position 2^63 on
@@ -57,6 +57,10 @@ getD-bitsOf (b ∷ bytes) i h = go (λ n k. getD-bitsOf bytes n k) (ltb i 8) ref
         ∙ getD-append-add (toBits 8 b) (bitsOf bytes) n 0
         ∙ ih n (omega arith)
         ∙ ap₂ (λ (k m : ℕ). getD (b ∷ bytes) k 0 / 2 ^ (7 - m) % 2) q r
+
+-- a position up to the end, under 2^63, is not past it
+pub not-past : (end at : ℕ) → at ≤ end → at < 2 ^ 63 → pastEnd end at ≡ false
+not-past end at h k = rw (le-ltb end at h, lt-leb (2 ^ 63) at k)
 
 -- a position that counts lies in a byte
 pub position-inside : (bytes : List ℕ) (at : ℕ) → at < length (bitsThatCount bytes) → at < 8 * length bytes

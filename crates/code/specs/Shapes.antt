@@ -14,7 +14,7 @@ use Rattle.ground.specs.Choice.{pick, pick-elim}
 use Rattle.ground.specs.Questions.{both-ways}
 use Rattle.ground.specs.Bits.{toBits}
 use Rattle.code.specs.Meaning.{Shape, nought, small, led, Parsed, found, ranOut, redundantZero, runTooLong, onesOf, longestRun, dropKnown, bits}
-use Rattle.code.specs.Meaning.{leftOut, width, withParity, coded, parse, afterSign, afterRun, parityThen, ledThen, smallFound, field, fromBits}
+use Rattle.code.specs.Meaning.{longestCode, leftOut, width, withParity, coded, parse, afterSign, afterRun, parityThen, ledThen, smallFound, field, fromBits}
 use Rattle.code.specs.BitLists.{allBits, allBits-take, length-toBits, fromBits-toBits, toBits-fromBits, fromBits-lt}
 
 -- the two drops
@@ -102,10 +102,6 @@ bits-some d (led s k x) = omega arith
 -- the length of a code: what stands before the field's zero and after it
 coded-length : (s ones : ℕ) (after : List ℕ) → length (coded s ones after) ≡ 3 + ones + length after
 coded-length s ones after = omega (arith, length-append (replicate ones 1) (0 ∷ after), length-replicate {A = ℕ} ones 1)
-
--- the bits of the longest code: two for each one of the longest run, and five
-abbrev pub longestCode : ℕ → ℕ
-longestCode top = 2 * longestRun top + 5
 
 -- no code is longer
 pub bits-few : (top d : ℕ) (shape : Shape) → 4 ≤ top → Drop d → Valid top d shape → length (bits d shape) ≤ longestCode top

@@ -12,12 +12,13 @@ use lib.Dec.{leb, ltb, eqb}
 use borrow.Author.Tests.{le-leb, leb-true, le-ltb}
 use Rattle.ground.specs.Choice.{pick, pick-elim}
 use Rattle.ground.specs.Questions.{both-hold}
-use Rattle.ground.specs.Paper.{Paper, accepted, refused, onward, mapped, paper-elim, refused-not, accepted-same}
+use Rattle.ground.specs.Paper.{Paper, accepted, refused, refusedWith, onward, mapped, paper-elim, refused-not, accepted-same}
 use Rattle.ground.specs.Outcome.{Outcome, accept, refuse, Stays}
 use Rattle.ground.specs.Bits.{toBits, bitsOf}
 use Rattle.ground.specs.Putting.{length-put}
 use Rattle.code.specs.Meaning.{Shape, nought, small, led, Parsed, found, ranOut, redundantZero, runTooLong, ShapeValues, UnpackValues, valuesOf}
 use Rattle.code.specs.Meaning.{bits, value, sign, magnitude, error, width, withParity, onesOf, shapeOfNumber, codeOf, decoded, bitsThatCount, parse}
+use Rattle.code.specs.Meaning.{pastEnd, answerTo}
 use Rattle.code.specs.Meaning.{greatestPlace, largest, answerOf, positionMeans, shapeMeans, numberRead, unpackMeans, inRule, packMeans, placeMeans}
 use Rattle.code.specs.Meaning.{fitsAt, putAt, padded, toByteEnd, bytesWith, dropKnown}
 use Rattle.code.specs.declared.Refusal.{Refusal}
@@ -26,7 +27,7 @@ use Rattle.code.specs.declared.ShapeAnswer.the-variants as S
 use Rattle.code.specs.Answers.{shapePaper, refusalPaper, reasonOf}
 use Rattle.code.specs.Promise.{ShapePromise}
 use Rattle.code.specs.BitLists.{allBits, allBits-append, allBits-take, allBits-drop, allBits-toBits, allBits-bitsOf, length-bitsOf}
-use Rattle.code.specs.Positions.{length-bitsThatCount, allBits-bitsThatCount, bits-back, length-bytesFrom}
+use Rattle.code.specs.Positions.{length-bitsThatCount, allBits-bitsThatCount, not-past, bits-back, length-bytesFrom}
 use Rattle.code.specs.Shapes.{Drop, drop-of, Valid, bits-some, parse-bits, found-exact}
 use Rattle.code.specs.Magnitudes.{places, shape-of-value, number-valid, magnitude-fits, magnitude-positive, error-fits, sign-bit, signed-back}
 
@@ -62,10 +63,13 @@ pub reads-shape : (bytes : List ℕ) (at d : ℕ) (shape : Shape) → dropKnown 
     → shapeMeans bytes at d ≡ accepted (valuesOf d shape (at + length (bits d shape)))
 reads-shape bytes at d shape t v h e =
     let l : List ℕ = drop at (bitsThatCount bytes) in
-    let inside : ltb (length (bitsThatCount bytes)) at ≡ false = le-ltb (length (bitsThatCount bytes)) at (omega arith) in
-    ap₂ (λ (a b : Bool). pick a (pick b (refused 9) (answerOf d at (parse greatestPlace d l))) (refused 8)) t inside
-    ∙ ap (λ (k : List ℕ). answerOf d at (parse greatestPlace d k)) (stands-first bytes at (bits d shape) h e)
-    ∙ ap (answerOf d at) (parse-bits greatestPlace d shape (drop (length (bits d shape)) l) v)
+    let rest : List ℕ = drop (length (bits d shape)) l in
+    let some = bits-some d shape in
+    let inside : pastEnd (length (bitsThatCount bytes)) at ≡ false
+    = not-past (length (bitsThatCount bytes)) at (omega arith) (omega (arith, length-bitsThatCount bytes)) in
+    ap₂ (λ (a b : Bool). pick a (pick b (refusedWith 9 0) (answerTo greatestPlace d at l)) (refused 8)) t inside
+    ∙ ap (answerTo greatestPlace d at) (stands-first bytes at (bits d shape) h e)
+    ∙ ap (answerOf greatestPlace d at (bits d shape ++ rest)) (parse-bits greatestPlace d shape rest v)
 
 -- what was read at a position: a valid shape, whose bits stand there
 pub record ReadAt (bytes : List ℕ) (at d : ℕ) (v : ShapeValues) : Type 0 where
@@ -79,17 +83,17 @@ pub record ReadAt (bytes : List ℕ) (at d : ℕ) (v : ShapeValues) : Type 0 whe
 -- an accepted reading read a shape
 pub read-at : (bytes : List ℕ) (at d : ℕ) {v : ShapeValues} → shapeMeans bytes at d ≡ accepted v → ReadAt bytes at d v
 read-at bytes at d {v} e =
-    pick-elim (λ (p : Paper ShapeValues). p ≡ accepted v → ReadAt bytes at d v) (dropKnown d) (positionMeans bytes at d) (refused 8)
+    pick-elim (λ (p : Paper ShapeValues). p ≡ accepted v → ReadAt bytes at d v) (dropKnown d) (positionMeans greatestPlace bytes at d) (refused 8)
     (λ k.
-    pick-elim (λ (p : Paper ShapeValues). p ≡ accepted v → ReadAt bytes at d v) (ltb (length (bitsThatCount bytes)) at) (refused 9)
-    (answerOf d at (parse greatestPlace d (drop at (bitsThatCount bytes))))
+    pick-elim (λ (p : Paper ShapeValues). p ≡ accepted v → ReadAt bytes at d v) (pastEnd (length (bitsThatCount bytes)) at) (refusedWith 9 0)
+    (answerTo greatestPlace d at (drop at (bitsThatCount bytes)))
     (λ past f. absurd (refused-not f))
     (λ here. by-shape (parse greatestPlace d (drop at (bitsThatCount bytes))) refl k))
     (λ k f. absurd (refused-not f))
     e
   where
-    by-shape : (q : Parsed) → parse greatestPlace d (drop at (bitsThatCount bytes)) ≡ q → dropKnown d ≡ true → answerOf d at q ≡ accepted v
-        → ReadAt bytes at d v
+    by-shape : (q : Parsed) → parse greatestPlace d (drop at (bitsThatCount bytes)) ≡ q → dropKnown d ≡ true
+        → answerOf greatestPlace d at (drop at (bitsThatCount bytes)) q ≡ accepted v → ReadAt bytes at d v
     by-shape (found shape rest) p k e =
         let l : List ℕ = drop at (bitsThatCount bytes) in
         let x = found-exact greatestPlace d l (allBits-drop at (bitsThatCount bytes) (allBits-bitsThatCount bytes)) p in

@@ -25,10 +25,11 @@ pub enum Packed {
     TooShort,
 }
 
-// Why a code is not read: a drop or a number outside the rule, bits that ran out, a redundant zero, a run of ones too long.
+// Why a code is not read: a drop or a number outside the rule, bits that ran out, with the least number that is missing, a redundant zero, a run of
+// ones too long.
 pub enum Refusal {
     OutsideRule,
-    RanOut,
+    RanOut { missing: u8 },
     RedundantZero,
     RunTooLong,
 }
@@ -77,7 +78,7 @@ pub fn refusal_number(why: Refusal) -> u8
 {
     match why {
         Refusal::OutsideRule => 8,
-        Refusal::RanOut => 9,
+        Refusal::RanOut { missing: _ } => 9,
         Refusal::RedundantZero => 10,
         Refusal::RunTooLong => 11,
     }

@@ -8,4 +8,5 @@ pub mod OneOutcome
 pub mod Refusals
 pub mod OneMeaning
 pub mod Packets
+pub mod MissingBits
 pub mod Requests

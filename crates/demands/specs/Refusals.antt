@@ -52,7 +52,8 @@ use Rattle.histogram.specs.Outcomes.{open-stays}
 use Rattle.ledger.specs.Feeding.{increments-stays}
 use Rattle.ledger.specs.Outcomes.{call-stays}
 use Rattle.ledger.specs.Runs.{Call, increment, flip, ask, callMeans}
-use Rattle.plavotesk.specs.Meaning.{AskValues, Edges, PacketPlaces, Quotients, edgesOf, quotientsOf, toldAs, toldAsk, toldFound, toldPacket, toldWith}
+use Rattle.plavotesk.specs.Meaning.{AskValues, Edges, PacketPlaces, Quotients, edgesOf, quotientsOf, toldAs, toldAsk, toldFound, toldMissing, toldPacket}
+use Rattle.plavotesk.specs.Meaning.{toldWith}
 use Rattle.plavotesk.specs.Promise.{Sentence, PacketFindPromise, PacketHeaderPromise, PacketWritePromise, MessageReadPromise, MessageWritePromise}
 use Rattle.plavotesk.specs.Promise.{CodePackPromise, CodeUnpackPromise, ReadingPromise, RatePromise, Float16CodePromise, Float8CodePromise, Int24Promise}
 use Rattle.plavotesk.specs.Promise.{Log8CodePromise, LevelSecondsPromise, SecondBeginningPromise, SecondEndingPromise, Left, leftBy}
@@ -187,20 +188,25 @@ pub plv-code-pack-refused : (buffer : List ℕ) (at : ℕ) (v : ℤ) (d held : �
     → Refuses (o .0 .0) → (o .0 .1 ≡ held) × (o .1 ≡ buffer)
 plv-code-pack-refused buffer at v d held o = exported-writes (packMeans buffer at v d) held buffer (pack-stays buffer at v d) o
 
+-- a call that reads codes: the bits missing come with 9 alone
+missing-refused : {A X : Type 0} (places : A → X) (p : Paper A) (held : X) (missing : ℕ) (o : (ℕ × X) × ℕ) → o ≡ toldMissing places p held missing
+    → Refuses (o .0 .0) → o .0 .1 ≡ held
+missing-refused {A} {X} places p held missing o e = exported-refused places p held (o .0) (ap (λ (y : (ℕ × X) × ℕ). y .0) e)
+
 -- reading a code
-pub plv-code-unpack-refused : (bytes : List ℕ) (at d : ℕ) (held : UnpackValues) (o : ℕ × UnpackValues) → CodeUnpackPromise bytes at d held o
-    → Refuses (o .0) → o .1 ≡ held
-plv-code-unpack-refused bytes at d held o = exported-refused (λ (v : UnpackValues). v) (unpackMeans bytes at d) held o
+pub plv-code-unpack-refused : (bytes : List ℕ) (at d : ℕ) (held : UnpackValues) (missing : ℕ) (o : (ℕ × UnpackValues) × ℕ)
+    → CodeUnpackPromise bytes at d held missing o → Refuses (o .0 .0) → o .0 .1 ≡ held
+plv-code-unpack-refused bytes at d = missing-refused (λ (v : UnpackValues). v) (unpackMeans bytes at d)
 
 -- reading counts
-pub plv-reading-refused : (bytes : List ℕ) (at d : ℕ) (held : Edges) (o : ℕ × Edges) → ReadingPromise bytes at d held o → Refuses (o .0) → o .1 ≡ held
-plv-reading-refused bytes at d held o = exported-refused (λ (v : ReadingValues). edgesOf (v .reading) (v .next)) (readingMeans bytes at d) held o
+pub plv-reading-refused : (bytes : List ℕ) (at d : ℕ) (held : Edges) (missing : ℕ) (o : (ℕ × Edges) × ℕ) → ReadingPromise bytes at d held missing o
+    → Refuses (o .0 .0) → o .0 .1 ≡ held
+plv-reading-refused bytes at d = missing-refused (λ (v : ReadingValues). edgesOf (v .reading) (v .next)) (readingMeans bytes at d)
 
 -- forming a rate
-pub plv-rate-refused : (bytes : List ℕ) (at d level : ℕ) (held : Quotients) (o : ℕ × Quotients) → RatePromise bytes at d level held o
-    → Refuses (o .0) → o .1 ≡ held
-plv-rate-refused bytes at d level held o =
-    exported-refused (λ (v : RateValues). quotientsOf (v .rate) (v .next)) (rateMeans bytes at d level) held o
+pub plv-rate-refused : (bytes : List ℕ) (at d level : ℕ) (held : Quotients) (missing : ℕ) (o : (ℕ × Quotients) × ℕ)
+    → RatePromise bytes at d level held missing o → Refuses (o .0 .0) → o .0 .1 ≡ held
+plv-rate-refused bytes at d level = missing-refused (λ (v : RateValues). quotientsOf (v .rate) (v .next)) (rateMeans bytes at d level)
 
 -- the codes of the floats
 pub plv-float16-code-refused : (count held : ℕ) (o : ℕ × ℕ) → Float16CodePromise count held o → Refuses (o .0) → o .1 ≡ held

@@ -7,6 +7,14 @@ pub use Rattle.logarithm.specs.Logarithms.{log8-to-the-letter, log8-from-the-le
 pub use Rattle.logarithm.specs.RoundTrip.{log8-order}
 -- "from a byte, the smallest and largest counts that give it, or a plain word that no count does": one relation seen from two sides
 pub use Rattle.logarithm.specs.RoundTrip.{log8-encloses, log8-enclosed, log8-ends, log8-none}
+-- 2026-02, "the least number of further bits with which some accepted code could be completed from what was read", over every list of bits; as it is computed
+pub use Rattle.code.specs.Missing.{Completion, missing-is-least, missing-computed, missing-few}
+-- "at the end exactly, under 2^63, it carries 1, and from any other position past the end, 0"
+pub use Rattle.code.specs.Missing.{runs-out, at-the-end, past-the-end}
+-- "Everything that reads codes hands this number on unchanged: rates and the code reader"; no other refusal carries one
+pub use Rattle.demands.specs.MissingBits.{unpack-hands-on, reader-hands-on, reading-hands-on, rate-hands-on, no-other-carries}
+-- and so do the exported calls
+pub use Rattle.demands.specs.MissingBits.{plv-code-unpack-tells, plv-reading-tells, plv-rate-tells}
 -- 2026-06, "Codes already on file keep their bits and meaning: show that every code accepted before decodes as before"
 pub use Rattle.code.specs.OnFile.{reads-as-before, onward-as-before, decodes-as-before, packs-as-before, unpack-as-before, pack-as-before}
 -- and no other answer moved: every answer of the old reader but 11, and every outcome of the old writer but 8, is today's

@@ -1,14 +1,14 @@
 -- The greatest number with a property: "the largest code ..", "the highest level .."; and the least: "the smallest .. count".
 -- Assumes nothing.
-use mathlib.Core.Path.{_≡_, ap, _∙_}
+use mathlib.Core.Path.{_≡_, ap, subst, _∙_}
 use mathlib.Core.Logic.{⊎-elim}
 use mathlib.Core.Bool.{Bool, true, false}
-use Prim.Native.Nat.{ℕ, zero, suc, _≤_, _<_}
+use Prim.Native.Nat.{ℕ, zero, suc, _+_, _≤_, _<_}
 use native.Mathlib.Nat.{le-refl, le-of-eq, le-of-lt, le-trans, le-antisymm, lt-of-lt-of-le, lt-irrefl, eq-or-lt-of-le}
 use native.Mathlib.Decide.{decLt}
 use native.Mathlib.Omega.{arith}
 use Rattle.ground.specs.Choice.{pick, pick-elim}
-use Rattle.ground.specs.Questions.{both-ways}
+use Rattle.ground.specs.Questions.{both-ways, past}
 
 -- a number that has the property, and no greater one has
 pub record Greatest (P : ℕ → Type 0) (n : ℕ) : Type 0 where
@@ -54,6 +54,22 @@ greatest-is test (suc n) h =
             ⊎-elim (λ (q : k ≡ suc n). absurd (both-ways (p .1) (ap test q ∙ e)))
             (λ (q : k < suc n). g .most k (omega arith, p .1))
             (eq-or-lt-of-le (p .0))
+
+-- the least from k on at which a test holds, computed, looked for over so many numbers; the last where it holds at none before
+abbrev pub leastFrom : (ℕ → Bool) → ℕ → ℕ → ℕ
+leastFrom test zero k = k
+leastFrom test (suc n) k = pick (test k) k (leastFrom test n (suc k))
+
+-- the computed one is the least, where the test holds at none below k, and at one of those looked at
+pub least-is : (test : ℕ → Bool) (n k m : ℕ) → ((j : ℕ) → test j ≡ true → k ≤ j) → m ≤ k + n → test m ≡ true
+    → Least (λ (j : ℕ). test j ≡ true) (leastFrom test n k)
+least-is test zero k m none h t =
+    let same : m ≡ k = omega (arith, none m t) in
+    record { has = subst (λ (j : ℕ). test j ≡ true) same t; least = none }
+least-is test (suc n) k m none h t =
+    pick-elim (λ (l : ℕ). Least (λ (j : ℕ). test j ≡ true) l) (test k) k (leastFrom test n (suc k))
+    (λ e. record { has = e; least = none })
+    (λ e. least-is test n (suc k) m (λ j p. past (none j p) (λ (q : j ≡ k). both-ways p (ap test q ∙ e))) (omega arith) t)
 
 -- a greater code never has a smaller value
 abbrev pub Grows : (ℕ → ℕ) → Type 0

@@ -42,6 +42,16 @@ paper-elim P (refusal n carried) a r = r n carried refl
 pub refused-not : {A : Type 0} {n : ℕ} {carried : List ℕ} {x : A} → refusal n carried ≡ accepted x → ⊥
 refused-not e = let z : _≡_ {A = ℕ} 0 1 = cc in omega arith
 
+-- a refusal that what goes on never gives is handed on with what it carries, and comes from nowhere else
+pub handed-on : {A B : Type 0} (then : A → Paper B) {n : ℕ} {carried : List ℕ} → ((x : A) → numberOf (then x) ≡ n → ⊥) → (p : Paper A)
+    → (p ≡ refusal n carried → onward then p ≡ refusal n carried) × (onward then p ≡ refusal n carried → p ≡ refusal n carried)
+handed-on then never (accepted x) = (λ e. absurd (refused-not (sym e)), λ e. absurd (never x (ap numberOf e)))
+handed-on {A} {B} then never (refusal m held) = (λ e. ap (onward then) e, λ e. ap back e)
+  where
+    back : Paper B → Paper A
+    back (accepted y) = refusal 0 []
+    back (refusal k given) = refusal k given
+
 -- two answers that accept alike accept the same
 pub accepted-same : {A : Type 0} {x y : A} → _≡_ {A = Paper A} (accepted x) (accepted y) → x ≡ y
 accepted-same {A} {x} e = ap out e

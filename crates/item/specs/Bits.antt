@@ -15,8 +15,8 @@ use Rattle.ground.specs.Outcome.{outcomeOf, accept, onwardTo}
 use Rattle.ground.specs.Paper.{Paper, accepted, refusal, refused, mapped, paper-elim}
 use Rattle.code.specs.BitLists.{allBits, allBits-toBits, length-toBits}
 use Rattle.code.specs.Magnitudes.{places, number-valid}
-use Rattle.code.specs.Meaning.{codeOf, greatestPlace, largest, placeMeans, shapeOfNumber}
-use Rattle.code.specs.Shapes.{none, Valid, longestCode, bits-few as code-few}
+use Rattle.code.specs.Meaning.{codeOf, greatestPlace, largest, longestCode, placeMeans, shapeOfNumber}
+use Rattle.code.specs.Shapes.{none, Valid, bits-few as code-few}
 use Rattle.code.specs.Theorems.{allBits-shape}
 use Rattle.format.specs.Meaning as format
 use Rattle.logarithm.specs.Meaning as logarithm

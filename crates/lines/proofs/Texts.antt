@@ -19,8 +19,8 @@ use Rattle.code.specs.Positions.{getD-bitsOf, length-bitsThatCount, length-byte
 use Rattle.ground.specs.Outcome.{Outcome, outcomeOf, accept}
 use Rattle.code.specs.Answers.{packedPaper}
 use Rattle.code.specs.Promise.{PackPromise}
-use Rattle.code.specs.Meaning.{greatestPlace, largest, codeOf, signOf, shapeOfNumber, bytesWith, putAt, packMeans, bitsThatCount}
-use Rattle.code.specs.Shapes.{Drop, drop-is-known, longestCode}
+use Rattle.code.specs.Meaning.{greatestPlace, largest, longestCode, codeOf, signOf, shapeOfNumber, bytesWith, putAt, packMeans, bitsThatCount}
+use Rattle.code.specs.Shapes.{Drop, drop-is-known}
 use Rattle.code.specs.Magnitudes.{places, number-valid}
 use Rattle.code.specs.Theorems.{packs, put-stands, allBits-shape}
 use Rattle.code.specs.declared.Packed.{Packed}

@@ -12,8 +12,8 @@ use lib.Seq.{length-take-le}
 use Rattle.ground.specs.Choice.{pick-elim}
 use Rattle.ground.specs.Paper.{Paper, accepted, refusal}
 use Rattle.ground.specs.Putting.{put, put-next}
-use Rattle.code.specs.Meaning.{codeOf, shapeOfNumber, greatestPlace, largest, signOf}
-use Rattle.code.specs.Shapes.{Drop, none, three, longestCode, bits-few}
+use Rattle.code.specs.Meaning.{codeOf, shapeOfNumber, greatestPlace, largest, longestCode, signOf}
+use Rattle.code.specs.Shapes.{Drop, none, three, bits-few}
 use Rattle.code.specs.Magnitudes.{places, number-valid}
 use Rattle.lines.specs.Meaning.{shortest, valueText, codeText, numberText, enough}
 

@@ -9,11 +9,16 @@ use mathlib.Core.Bool.{not}
 use mathlib.Core.List.{List}
 use Prim.Native.Nat.{ℕ}
 use lib.Dec.{T}
+use lib.ListN.{getD}
 use mir.Val.{hasKey}
 use types.Run.{OneOf, miss}
 use Rattle.ground.specs.Outcome.{Outcome, outcomeOf}
 use Rattle.ground.specs.Paper.{Paper, accepted, refusal, refused, numberOf}
-use Rattle.plavotesk.specs.Meaning.{toldAs, toldWith}
+use Rattle.code.proofs.Refusal.{the-type}
+use Rattle.code.specs.Answers.{refusalCarries}
+use Rattle.code.specs.declared.Refusal.{Refusal}
+use Rattle.code.specs.declared.Refusal.the-variants.{OutsideRule, RanOut, RedundantZero, RunTooLong}
+use Rattle.plavotesk.specs.Meaning.{carriedTo, toldAs, toldMissing, toldWith}
 use Rattle.plavotesk.specs.Promise.{Sentence}
 
 -- what is told, with the memory that the call leaves
@@ -48,6 +53,28 @@ module _ {A X : Type 0} (places : A → X) (held : X) {R : Type 0} (paper : R �
   refuses-as p e r k =
       ap (λ (x : ℕ). (x, held)) (k ∙ ap numberOf (ap paper e ∙ r))
       ∙ ap (λ (q : Paper A). toldAs places q held) (sym (ap paper e ∙ r) ∙ p)
+
+module _ {A X : Type 0} (places : A → X) (held : X) (missing : ℕ) {R : Type 0} (paper : R → Paper A) where
+  -- a call that reads codes, accepted: the place of the bits missing keeps what it held
+  pub reads : {a s : R} {values : A} {means : Paper A} → paper a ≡ means → a ≡ s → paper s ≡ accepted values
+      → _≡_ {A = (ℕ × X) × ℕ} ((0, places values), missing) (toldMissing places means held missing)
+  unfolding carriedTo
+  reads p e v = with-memory (accepts places held paper p e v) (ap (λ (q : Paper A). carriedTo q missing) (sym (ap paper e ∙ v) ∙ p))
+
+  -- refused: its number, what the other places held, and what it carries
+  pub refuses-reading : {a s : R} {n k m : ℕ} {carried : List ℕ} {means : Paper A} → paper a ≡ means → a ≡ s → paper s ≡ refusal n carried → k ≡ n
+      → m ≡ getD carried 0 missing → _≡_ {A = (ℕ × X) × ℕ} ((k, held), m) (toldMissing places means held missing)
+  unfolding toldAs carriedTo
+  refuses-reading p e r i j =
+      with-memory (ap (λ (x : ℕ). (x, held)) i) j
+      ∙ ap (λ (q : Paper A). toldMissing places q held missing) (sym (ap paper e ∙ r) ∙ p)
+
+-- no other refusal than 9 carries a number
+pub carries-none : (why : Refusal) → OneOf (0 ∷ 2 ∷ 3 ∷ []) (tagOf the-type why) → (held : ℕ) → held ≡ getD (refusalCarries why) 0 held
+carries-none OutsideRule o held = refl
+carries-none (RanOut missing) o held = absurd (miss (0 ∷ 2 ∷ 3 ∷ []) 1 tt o)
+carries-none RedundantZero o held = refl
+carries-none RunTooLong o held = refl
 
 module _ {A L : Type 0} (held : A) {R : Type 0} (paper : R → Paper A) (a : R) {after : L} {o : Outcome A L} (p : outcomeOf (paper a) after ≡ o) where
   -- the same with what the call leaves: accepted

@@ -20,7 +20,7 @@ use Rattle.rate.specs.declared.record.Reading.the-variants.{Exact, Between}
 
 -- the version of this interface, PLV_VERSION of the header
 abbrev pub interface : ℕ
-interface = 3
+interface = 4
 
 -- "Each returns its number, and nothing else unless said above": 0 and what the values say where accepted; the number, and what the places held, where refused
 unfoldable pub toldAs : {A X : Type 0} → (A → X) → Paper A → X → ℕ × X
@@ -39,6 +39,15 @@ toldWith o held = (told (o .answer) held, o .leaves)
 abbrev pub toldFound : Paper FoundValues → FoundValues → ℕ × FoundValues
 toldFound (accepted values) held = (0, values)
 toldFound (refusal n carried) held = (n, record { place = held .place; skipped = getD carried 0 (held .skipped) })
+
+-- 2026-02, "Refusal 9 shall carry ..": a place for what a refusal carries holds it with that refusal alone, and else what it held
+unfoldable pub carriedTo : {A : Type 0} → Paper A → ℕ → ℕ
+carriedTo (accepted values) held = held
+carriedTo (refusal n carried) held = getD carried 0 held
+
+-- the same beside what is told
+abbrev pub toldMissing : {A X : Type 0} → (A → X) → Paper A → X → ℕ → (ℕ × X) × ℕ
+toldMissing places means held missing = (toldAs places means held, carriedTo means missing)
 
 -- "its data as a part of the caller's capture": where the part starts, and its bytes; an empty part is told as 0 and 0
 abbrev pub partOf : List ℕ → ℕ → ℕ × ℕ

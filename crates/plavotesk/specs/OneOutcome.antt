@@ -56,14 +56,14 @@ plv-message-write-one buffer address tag value held o p = one-value
 pub plv-code-pack-one : (buffer : List ℕ) (at : ℕ) (value : ℤ) (drop held : ℕ) → One (CodePackPromise buffer at value drop held)
 plv-code-pack-one buffer at value drop held o p = one-value
 
-pub plv-code-unpack-one : (bytes : List ℕ) (at drop : ℕ) (held : UnpackValues) → One (CodeUnpackPromise bytes at drop held)
-plv-code-unpack-one bytes at drop held o p = one-value
+pub plv-code-unpack-one : (bytes : List ℕ) (at drop : ℕ) (held : UnpackValues) (missing : ℕ) → One (CodeUnpackPromise bytes at drop held missing)
+plv-code-unpack-one bytes at drop held missing o p = one-value
 
-pub plv-reading-one : (bytes : List ℕ) (at drop : ℕ) (held : Edges) → One (ReadingPromise bytes at drop held)
-plv-reading-one bytes at drop held o p = one-value
+pub plv-reading-one : (bytes : List ℕ) (at drop : ℕ) (held : Edges) (missing : ℕ) → One (ReadingPromise bytes at drop held missing)
+plv-reading-one bytes at drop held missing o p = one-value
 
-pub plv-rate-one : (bytes : List ℕ) (at drop level : ℕ) (held : Quotients) → One (RatePromise bytes at drop level held)
-plv-rate-one bytes at drop level held o p = one-value
+pub plv-rate-one : (bytes : List ℕ) (at drop level : ℕ) (held : Quotients) (missing : ℕ) → One (RatePromise bytes at drop level held missing)
+plv-rate-one bytes at drop level held missing o p = one-value
 
 -- formats
 pub plv-float16-code-one : (count held : ℕ) → One (Float16CodePromise count held)

@@ -18,7 +18,7 @@ use Rattle.pages.specs.declared.Window.{Window}
 use Rattle.state.specs.Meaning.{nextMeans}
 use Rattle.histogram.specs.Meaning.{CallOutcome, Fed, Lent, flipMeans, incrementMeans, incrementsMeans, openMeans}
 use Rattle.window_ask.specs.Meaning.{askMeans}
-use Rattle.plavotesk.specs.Meaning.{toldAs, told, toldWith, toldFound, partOf, Edges, edgesOf, AskValues, toldAsk, Quotients, quotientsOf}
+use Rattle.plavotesk.specs.Meaning.{told, toldMissing, toldWith, toldFound, partOf, Edges, edgesOf, AskValues, toldAsk, Quotients, quotientsOf}
 use Rattle.packet_ask.specs.Meaning.{PacketOutcome, packetMeans}
 use Rattle.plavotesk.specs.Meaning.{CountEnds, countEnds, PacketPlaces, toldPacket}
 
@@ -50,19 +50,19 @@ MessageWritePromise buffer address tag value held o = o ≡ toldWith (messageMea
 abbrev pub CodePackPromise : List ℕ → ℕ → ℤ → ℕ → ℕ → (ℕ × ℕ) × List ℕ → Type 0
 CodePackPromise buffer at value drop held o = o ≡ toldWith (packMeans buffer at value drop) held
 
--- reading a code: the number, and the next position
-abbrev pub CodeUnpackPromise : List ℕ → ℕ → ℕ → UnpackValues → ℕ × UnpackValues → Type 0
-CodeUnpackPromise bytes at drop held o = o ≡ told (unpackMeans bytes at drop) held
+-- reading a code: the number, and the next position; the bits missing, with 9
+abbrev pub CodeUnpackPromise : List ℕ → ℕ → ℕ → UnpackValues → ℕ → (ℕ × UnpackValues) × ℕ → Type 0
+CodeUnpackPromise bytes at drop held missing o = o ≡ toldMissing (λ (v : UnpackValues). v) (unpackMeans bytes at drop) held missing
 
--- reading counts: the edges, whether they are one exact count, and the next position
-abbrev pub ReadingPromise : List ℕ → ℕ → ℕ → Edges → ℕ × Edges → Type 0
-ReadingPromise bytes at drop held o =
-    o ≡ toldAs (λ (v : ReadingValues). edgesOf (v .reading) (v .next)) (readingMeans bytes at drop) held
+-- reading counts: the edges, whether they are one exact count, and the next position; the bits missing, with 9
+abbrev pub ReadingPromise : List ℕ → ℕ → ℕ → Edges → ℕ → (ℕ × Edges) × ℕ → Type 0
+ReadingPromise bytes at drop held missing o =
+    o ≡ toldMissing (λ (v : ReadingValues). edgesOf (v .reading) (v .next)) (readingMeans bytes at drop) held missing
 
--- forming a rate: both quotients, the seconds, and the next position
-abbrev pub RatePromise : List ℕ → ℕ → ℕ → ℕ → Quotients → ℕ × Quotients → Type 0
-RatePromise bytes at drop level held o =
-    o ≡ toldAs (λ (v : RateValues). quotientsOf (v .rate) (v .next)) (rateMeans bytes at drop level) held
+-- forming a rate: both quotients, the seconds, and the next position; the bits missing, with 9
+abbrev pub RatePromise : List ℕ → ℕ → ℕ → ℕ → Quotients → ℕ → (ℕ × Quotients) × ℕ → Type 0
+RatePromise bytes at drop level held missing o =
+    o ≡ toldMissing (λ (v : RateValues). quotientsOf (v .rate) (v .next)) (rateMeans bytes at drop level) held missing
 
 -- a call by a sentence of document 01 that is no equation: an answer of which the sentence holds, and what is told of it
 pub record Sentence (Holds : Paper ℕ → Type 0) (held : ℕ) (o : ℕ × ℕ) : Type 0 where

@@ -2,8 +2,8 @@
 -- Assumes nothing.
 use mathlib.Core.Path.{_≡_, refl}
 use mathlib.Core.List.{[], _∷_}
-use Rattle.ground.specs.Paper.{accepted, refused}
-use Rattle.code.specs.Meaning.{nought, led, parse, afterSign, bitsThatCount}
+use Rattle.ground.specs.Paper.{accepted, refused, refusedWith}
+use Rattle.code.specs.Meaning.{nought, led, parse, afterSign, bitsThatCount, missing, completed}
 use Rattle.rate.specs.declared.record.Reading.the-variants.{Exact, Between}
 use Rattle.rate.specs.Meaning.{asFloat, readingMeans, rateMeans}
 use Rattle.rate.specs.Bands.{bandOf}
@@ -34,6 +34,6 @@ pub rate-refusals : rateMeans (138 ∷ []) 0 1 8
     ∷ rateMeans (224 ∷ []) 0 0 8
     ∷ rateMeans (138 ∷ []) 0 0 8
     ∷ []
-    ≡ refused 8 ∷ refused 9 ∷ refused 10 ∷ refused 11 ∷ refused 8 ∷ refused 19 ∷ []
-unfolding parse afterSign bitsThatCount
+    ≡ refused 8 ∷ refusedWith 9 1 ∷ refused 10 ∷ refused 11 ∷ refused 8 ∷ refused 19 ∷ []
+unfolding parse afterSign bitsThatCount missing completed
 rate-refusals = refl

@@ -6,7 +6,7 @@ use mathlib.Core.List.{List}
 use Prim.Native.Nat.{ℕ, zero, suc, _<_, _≤_}
 use native.Mathlib.Omega.{arith}
 use borrow.Author.Tests.{lt-ltb, le-ltb}
-use Rattle.ground.specs.Paper.{accepted, refused, onward}
+use Rattle.ground.specs.Paper.{accepted, refusal, refused, onward}
 use Rattle.code.specs.Meaning.{ShapeValues, signed, numberRead, shapeMeans}
 use Rattle.code.specs.Theorems.{read-fits}
 use Rattle.cadence.specs.Meaning.{lengthOf, secondsMeans}
@@ -32,8 +32,8 @@ below zero h = absurd (omega arith)
 below (suc m) h = refl
 
 module _ (bytes : List ℕ) (at d : ℕ) where
-  -- the code's refusal is the reading's
-  pub code-refused : {n : ℕ} → shapeMeans bytes at d ≡ refused n → readingMeans bytes at d ≡ refused n
+  -- the code's refusal is the reading's, with what it carries
+  pub code-refused : {n : ℕ} {carried : List ℕ} → shapeMeans bytes at d ≡ refusal n carried → readingMeans bytes at d ≡ refusal n carried
   code-refused e = ap (onward shapeReads) e
 
   module _ {v : ShapeValues} (e : shapeMeans bytes at d ≡ accepted v) where
@@ -50,8 +50,8 @@ module _ (bytes : List ℕ) (at d : ℕ) where
         = ap (λ (s : ℕ). negative (signed s (v .magnitude))) o ∙ below (v .magnitude) (read-fits bytes at d e .some o) in
         ap (onward shapeReads) e ∙ rw minus
 
-  -- the reading's refusal is the rate's, whatever the level
-  pub reading-refused : (level : ℕ) {n : ℕ} → readingMeans bytes at d ≡ refused n → rateMeans bytes at d level ≡ refused n
+  -- the reading's refusal is the rate's, whatever the level, with what it carries
+  pub reading-refused : (level : ℕ) {n : ℕ} {carried : List ℕ} → readingMeans bytes at d ≡ refusal n carried → rateMeans bytes at d level ≡ refusal n carried
   reading-refused level e = ap (onward (λ (r : ReadingValues). onward (rateValues r) (secondsMeans level))) e
 
   -- where there is a reading, a level over 7 is refused by 19

@@ -6,7 +6,7 @@ use code::ShapeAnswer;
 use code::Unpacked;
 ghost use mathlib.Core.Path.{_≡_};
 ghost use Prim.Native.Nat.{_≤_};
-ghost use Rattle.code.specs.Meaning.{signed, largest};
+ghost use Rattle.code.specs.Meaning.{signed, largest, pastEnd};
 ghost use Rattle.code.specs.Promise.{ShapePromise, UnpackPromise};
 
 // The code at a bit position of bytes: its sign, its decoded magnitude, its error and the position after it.
@@ -15,8 +15,8 @@ pub fn shape(bytes: &[u8], at: u64, drop: u8) -> ShapeAnswer
 {
     if code::drop_known(drop) {
         let end = code::end_of(bytes);
-        if end < at {
-            return ShapeAnswer::Refused(Refusal::RanOut);
+        if past_end(end, at) {
+            return read::ran_out(0);
         }
         read::code(bytes, at, end, drop)
     } else {
@@ -41,6 +41,17 @@ pub fn unpack(bytes: &[u8], at: u64, drop: u8) -> Unpacked
     Unpacked::Number {
         value: with_sign(sign, magnitude),
         next,
+    }
+}
+
+// Whether a position lies past the end of so many bits; every position from 2^63 on does.
+fn past_end(end: u64, at: u64) -> bool
+    ensures { λ r. ⌜ r ≡ pastEnd end at ⌝ }
+{
+    if end < at {
+        true
+    } else {
+        9223372036854775808 <= at
     }
 }
 

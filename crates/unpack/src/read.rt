@@ -8,9 +8,12 @@ ghost use Prim.Native.Nat.{_+_, _-_, _*_, _^_, _<_, _≤_};
 ghost use lib.ListN.{length, getD, take, drop as dropped};
 ghost use lib.Dec.{eqb};
 ghost use Rattle.ground.specs.Choice.{pick};
-ghost use Rattle.code.specs.Meaning.{bitsThatCount, parse, afterSign, afterRun, ledThen, fromBits, filled, greatestPlace, longestRun};
+ghost use Rattle.ground.specs.Paper.{refusedWith};
+ghost use Rattle.code.specs.Meaning.{bitsThatCount, fromBits, filled, greatestPlace, longestRun};
+ghost use Rattle.code.specs.Missing.{behindRun};
+ghost use Rattle.code.specs.Shapes.{Drop};
 ghost use Rattle.code.specs.Answers.{shapePaper};
-ghost use Rattle.unpack.specs.Steps.{restAnswer, zeroAnswer, Place, LedPlace};
+ghost use Rattle.unpack.specs.Steps.{codeAnswer, signAnswer, runAnswer, ledAnswer, zeroAnswer, Place, LedPlace};
 
 // The bit at a position that counts.
 fn bit(bytes: &[u8], at: u64) -> u8
@@ -32,10 +35,10 @@ fn bit_wide(bytes: &[u8], at: u64) -> u32
 // The code at a position; at the end itself no bit is left.
 pub(crate) fn code(bytes: &[u8], at: u64, end: u64, drop: u8) -> ShapeAnswer
     requires { ⌜ Place (now bytes) at end drop ⌝ }
-    ensures { λ r. ⌜ shapePaper r ≡ restAnswer drop end (parse greatestPlace drop (dropped at (bitsThatCount (now (bytes .entry))))) ⌝ }
+    ensures { λ r. ⌜ shapePaper r ≡ codeAnswer drop end (dropped at (bitsThatCount (now (bytes .entry)))) ⌝ }
 {
     if end <= at {
-        return ShapeAnswer::Refused(Refusal::RanOut);
+        return ran_out(1);
     }
     if bit(bytes, at) == 0 {
         return ShapeAnswer::Shape {
@@ -46,10 +49,35 @@ pub(crate) fn code(bytes: &[u8], at: u64, end: u64, drop: u8) -> ShapeAnswer
         };
     }
     if end <= at + 1 {
-        return ShapeAnswer::Refused(Refusal::RanOut);
+        return ran_out(6 - code::wide(drop));
     }
     let sign = bit_wide(bytes, at + 1);
     after_sign(bytes, at + 2, end, drop, sign)
+}
+
+// Bits ran out: the refusal, with the least number of bits that are missing.
+pub(crate) fn ran_out(missing: u32) -> ShapeAnswer
+    requires { ⌜ missing ≤ 15 ⌝ }
+    ensures { λ r. ⌜ shapePaper r ≡ refusedWith 9 missing ⌝ }
+{
+    ShapeAnswer::Refused(Refusal::RanOut {
+        missing: missing as u8,
+    })
+}
+
+// The bits behind a run of ones and its zero: a field, and from two ones on a parity before it.
+fn behind_run(drop: u8, ones: u32) -> u32
+    requires { ⌜ Drop drop × (ones ≤ longestRun greatestPlace) ⌝ }
+    ensures { λ r. ⌜ (r ≡ behindRun drop ones) × (r ≤ 14) ⌝ }
+{
+    let left = code::wide(drop);
+    if ones == 0 {
+        return 4 - left;
+    }
+    if ones == 1 {
+        return 3 - left;
+    }
+    ones + 2 - left
 }
 
 // The error of a code under 16: none with drop 0.
@@ -62,7 +90,7 @@ fn where_dropped(drop: u8, error: u32) -> u32
 // What follows the sign: a run of ones and its zero, then the rest.
 fn after_sign(bytes: &[u8], at: u64, end: u64, drop: u8, sign: u32) -> ShapeAnswer
     requires { ⌜ Place (now bytes) at end drop × (sign < 2) ⌝ }
-    ensures { λ r. ⌜ shapePaper r ≡ restAnswer drop end (afterSign greatestPlace drop sign 0 (dropped at (bitsThatCount (now (bytes .entry))))) ⌝ }
+    ensures { λ r. ⌜ shapePaper r ≡ signAnswer drop end sign 0 (dropped at (bitsThatCount (now (bytes .entry)))) ⌝ }
 {
     let mut ones: u32 = 0;
     let mut here = at;
@@ -76,13 +104,13 @@ fn after_sign(bytes: &[u8], at: u64, end: u64, drop: u8, sign: u32) -> ShapeAnsw
         ones += 1;
         here += 1;
     }
-    ShapeAnswer::Refused(Refusal::RanOut)
+    ran_out(1 + behind_run(drop, ones))
 }
 
 // What follows a run of ones and its zero.
 fn after_run(bytes: &[u8], at: u64, end: u64, drop: u8, sign: u32, ones: u32) -> ShapeAnswer
     requires { ⌜ Place (now bytes) at end drop × (sign < 2) × (ones ≤ longestRun greatestPlace) ⌝ }
-    ensures { λ r. ⌜ shapePaper r ≡ restAnswer drop end (afterRun greatestPlace drop sign ones (dropped at (bitsThatCount (now (bytes .entry))))) ⌝ }
+    ensures { λ r. ⌜ shapePaper r ≡ runAnswer drop end sign ones (dropped at (bitsThatCount (now (bytes .entry)))) ⌝ }
 {
     if ones == 0 {
         return small(bytes, at, end, drop, sign);
@@ -91,7 +119,7 @@ fn after_run(bytes: &[u8], at: u64, end: u64, drop: u8, sign: u32, ones: u32) ->
         return led(bytes, at, end, drop, sign, 4, 3 - code::wide(drop));
     }
     if end <= at {
-        return ShapeAnswer::Refused(Refusal::RanOut);
+        return ran_out(behind_run(drop, ones));
     }
     let place = 2 * ones + 1 + bit_wide(bytes, at);
     if GREATEST_PLACE < place {
@@ -104,12 +132,13 @@ fn after_run(bytes: &[u8], at: u64, end: u64, drop: u8, sign: u32, ones: u32) ->
 // A magnitude under 16: its field, drop 0's redundant zero and drop 3's 5.
 fn small(bytes: &[u8], at: u64, end: u64, drop: u8, sign: u32) -> ShapeAnswer
     requires { ⌜ Place (now bytes) at end drop × (sign < 2) ⌝ }
-    ensures { λ r. ⌜ shapePaper r ≡ restAnswer drop end (afterRun greatestPlace drop sign 0 (dropped at (bitsThatCount (now (bytes .entry))))) ⌝ }
+    ensures { λ r. ⌜ shapePaper r ≡ runAnswer drop end sign 0 (dropped at (bitsThatCount (now (bytes .entry)))) ⌝ }
 {
     let left = code::wide(drop);
     let width = 4 - left;
-    if end - at < width as u64 {
-        return ShapeAnswer::Refused(Refusal::RanOut);
+    let there = end - at;
+    if there < width as u64 {
+        return ran_out(width - there as u32);
     }
     let x = field(bytes, at, width);
     let next = at + width as u64;
@@ -142,10 +171,11 @@ fn small_zero(drop: u8, sign: u32, next: u64) -> ShapeAnswer
 // A magnitude with its leading one at a place: the field below it, of so many bits, and what is left out filled in.
 fn led(bytes: &[u8], at: u64, end: u64, drop: u8, sign: u32, place: u32, width: u32) -> ShapeAnswer
     requires { ⌜ LedPlace (now bytes) at end drop sign place width ⌝ }
-    ensures { λ r. ⌜ shapePaper r ≡ restAnswer drop end (ledThen greatestPlace drop sign place (dropped at (bitsThatCount (now (bytes .entry))))) ⌝ }
+    ensures { λ r. ⌜ shapePaper r ≡ ledAnswer drop end sign place (dropped at (bitsThatCount (now (bytes .entry)))) ⌝ }
 {
-    if end - at < width as u64 {
-        return ShapeAnswer::Refused(Refusal::RanOut);
+    let there = end - at;
+    if there < width as u64 {
+        return ran_out(width - there as u32);
     }
     let x = field(bytes, at, width);
     let left = place - width;

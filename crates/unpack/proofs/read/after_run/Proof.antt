@@ -4,7 +4,7 @@ use mathlib.Core.Path.{_∙_}
 use native.Mathlib.Omega.{arith}
 use borrow.Author.Needs.{needs}
 use Rattle.code.specs.Shapes.{drop-small}
-use Rattle.unpack.proofs.Parts.{run-is, run-wide, parity-out, parity-there, parity-above}
+use Rattle.unpack.proofs.Parts.{run-is, run-four, run-wide, parity-out, parity-there, parity-above}
 use Rattle.unpack.proofs.read.after_run.Statement.{statement}
 use Rattle.unpack.proofs.read.after_run.Tie as tie
 
@@ -17,13 +17,27 @@ sub-led c =
     omega (arith, drop-small (start .pre .0 .drop-is), c .wide .ensures)
 
 returns-2 : tie.Need-returns-2
-returns-2 c = c .led .ensures ∙ run-is _ _ _ _ 1 _ (c .before .before .if2 .taken)
+returns-2 c =
+    let a = c .before .before .before .before .before .args in
+    run-four (a .drop) (a .end) (a .sign) (a .ones) _ (c .before .before .if2 .taken) (c .led .ensures)
+
+behind-run-requires : tie.Need-behind-run-requires
+behind-run-requires c κs =
+    let p = c .before .before .before .before .pre in
+    (p .0 .drop-is, p .2)
+
+ran-out-requires : tie.Need-ran-out-requires
+ran-out-requires c κs = omega (arith, c .behind-run .ensures .1)
 
 returns-3 : tie.Need-returns-3
 returns-3 c =
-    let at-two = c .before in
+    let at-behind = c .before in
+    let at-three = at-behind .before in
+    let at-two = at-three .before in
     let at-one = at-two .before in
-    parity-out _ _ _ _ _ _ (at-one .before .before .pre .0 .end-is) (c .if3 .taken) (at-one .if1 .left) (at-two .if2 .left)
+    c .ran-out .ensures
+    ∙ parity-out _ _ _ _ _ _ _ (at-behind .behind-run .ensures .0) (at-one .before .before .pre .0 .end-is) (at-three .if3 .taken) (at-one .if1 .left)
+    (at-two .if2 .left)
 
 returns-4 : tie.Need-returns-4
 returns-4 c =
@@ -31,8 +45,9 @@ returns-4 c =
     let at-three = at-bit .before in
     let at-two = at-three .before in
     let at-one = at-two .before in
-    parity-above _ _ _ _ _ _ _ (at-one .before .before .pre .0 .end-is) (at-three .if3 .left) (at-one .if1 .left) (at-two .if2 .left)
-    (at-bit .bit-wide .ensures .0) (omega (arith, c .if4 .taken))
+    let p = at-one .before .before .pre .0 in
+    parity-above _ _ _ _ _ _ _ (p .drop-is) (p .end-is) (at-three .if3 .left) (at-one .if1 .left) (at-two .if2 .left)
+    (at-bit .bit-wide .ensures .0) (at-bit .bit-wide .ensures .1) (omega (arith, c .if4 .taken))
 
 sub-width : tie.Need-sub-width
 sub-width c =
@@ -64,12 +79,14 @@ returns-5 c =
     let at-three = at-bit .before in
     let at-two = at-three .before in
     let at-one = at-two .before in
-    parity-there _ _ _ _ _ _ _ (at-one .before .before .pre .0 .end-is) (at-three .if3 .left) (at-one .if1 .left) (at-two .if2 .left)
-    (at-bit .bit-wide .ensures .0) (c .led2 .ensures)
+    let p = at-one .before .before .pre .0 in
+    parity-there _ _ _ _ _ _ _ (p .drop-is) (p .end-is) (at-three .if3 .left) (at-one .if1 .left) (at-two .if2 .left)
+    (at-bit .bit-wide .ensures .0) (at-bit .bit-wide .ensures .1) (c .led2 .ensures)
 
 pub after-run-spec : {M : Type 1} → statement M
 after-run-spec =
     tie.close
-    (tie.spec (λ c κs. search needs) returns (λ c κs. search needs) sub-led (λ c κs. search needs) returns-2 returns-3 (λ c. search needs)
+    (tie.spec (λ c κs. search needs) returns (λ c κs. search needs) sub-led (λ c κs. search needs) returns-2 behind-run-requires ran-out-requires returns-3
+    (λ c. search needs)
     (λ c. search needs) (λ c κs. search needs) (λ c. search needs) returns-4 (λ c. search needs) (λ c κs. search needs) sub-width (λ c. search needs)
     led-requires-2 returns-5)

@@ -4,7 +4,8 @@ use mathlib.Core.Path.{_≡_, refl, _∙_}
 use Prim.Native.Nat.{_-_, _≤_}
 use native.Mathlib.Omega.{arith}
 use lib.ListN.{drop as dropped}
-use Rattle.code.specs.Meaning.{afterSign, bitsThatCount, greatestPlace, longestRun}
+use Rattle.code.specs.Meaning.{bitsThatCount, greatestPlace, longestRun}
+use Rattle.unpack.specs.Steps.{signAnswer}
 use Rattle.unpack.proofs.Parts.{answer-by, run-ends, run-goes-on, run-too-long, run-out}
 use Rattle.unpack.proofs.read.after_sign.Statement.{statement}
 use Rattle.unpack.proofs.read.after_sign.Tie as tie
@@ -12,7 +13,7 @@ use Rattle.unpack.proofs.read.after_sign.Tie as tie
 abbrev Inv-loop : tie.InvT-loop
 Inv-loop bytes at end drop sign ones₀ here₀ ones here =
     (here ≤ end) × (ones ≤ longestRun greatestPlace)
-    × (afterSign greatestPlace drop sign 0 (dropped at (bitsThatCount bytes)) ≡ afterSign greatestPlace drop sign ones (dropped here (bitsThatCount bytes)))
+    × (signAnswer drop end sign 0 (dropped at (bitsThatCount bytes)) ≡ signAnswer drop end sign ones (dropped here (bitsThatCount bytes)))
 
 abbrev μ-loop : tie.MeasureT-loop
 μ-loop bytes at end drop sign ones₀ here₀ ones here = end - here
@@ -33,7 +34,7 @@ returns c =
     let at-test = at-bit .before in
     let at-loop = at-test .before in
     let l = at-loop .loop in
-    answer-by _ _ (l .inv .2)
+    answer-by (l .inv .2)
     (run-ends _ (l .here) _ (at-bit .bit .result) (at-loop .before .before .pre .0 .end-is) (at-test .loop-test .taken) (at-bit .bit .ensures .0) _ _ _
     (at-if .if1 .taken))
     (c .after-run .ensures)
@@ -45,7 +46,7 @@ returns-2 c =
     let at-test = at-bit .before in
     let at-loop = at-test .before in
     let l = at-loop .loop in
-    answer-by _ _ (l .inv .2)
+    answer-by (l .inv .2)
     (run-too-long _ (l .here) _ (at-bit .bit .result) (at-loop .before .before .pre .0 .end-is) (at-test .loop-test .taken) (at-bit .bit .ensures .0) _ _
     (l .ones) (at-if .if1 .left) (omega arith))
     refl
@@ -64,14 +65,26 @@ loop-again c =
           _ _ (l .ones) (at-if .if1 .left) (c .if2 .left),
     )
 
+behind-run-requires : tie.Need-behind-run-requires Inv-loop μ-loop
+behind-run-requires c κs =
+    let at-loop = c .before in
+    (at-loop .before .before .pre .0 .drop-is, at-loop .loop .inv .1)
+
+ran-out-requires : tie.Need-ran-out-requires Inv-loop μ-loop
+ran-out-requires c κs = omega (arith, c .behind-run .ensures .1)
+
 returns-3 : tie.Need-returns-3 Inv-loop μ-loop
 returns-3 c =
-    let at-loop = c .before in
+    let at-behind = c .before in
+    let at-test = at-behind .before in
+    let at-loop = at-test .before in
     let l = at-loop .loop in
-    answer-by _ _ (l .inv .2) (run-out _ (l .here) _ _ _ _ (at-loop .before .before .pre .0 .end-is) (c .loop-test .left)) refl
+    answer-by (l .inv .2)
+    (run-out _ (l .here) _ _ _ _ _ (at-loop .before .before .pre .0 .end-is) (at-test .loop-test .left) (at-behind .behind-run .ensures .0))
+    (c .ran-out .ensures)
 
 pub after-sign-spec : {M : Type 1} → statement M
 after-sign-spec =
     tie.close
     (tie.spec Inv-loop μ-loop loop-holds (λ c κs. omega arith) (λ c. omega arith) after-run-requires returns returns-2 (λ c. omega arith)
-    (λ c. omega arith) (λ c. omega arith) loop-again returns-3)
+    (λ c. omega arith) (λ c. omega arith) loop-again behind-run-requires (λ c. omega (arith, c .behind-run .ensures .1)) ran-out-requires returns-3)

@@ -1,5 +1,6 @@
 -- `unpack::read::led` meets its contract: the field is there or bits ran out, and whatever it holds is inside the rule.
 -- Assumes nothing.
+use mathlib.Core.Path.{_∙_}
 use native.Mathlib.Omega.{arith}
 use borrow.Author.Needs.{needs}
 use Rattle.code.specs.Shapes.{below-led}
@@ -8,11 +9,18 @@ use Rattle.unpack.proofs.Parts.{led-fits, led-out, led-there}
 use Rattle.unpack.proofs.read.led.Statement.{statement}
 use Rattle.unpack.proofs.read.led.Tie as tie
 
+ran-out-requires : tie.Need-ran-out-requires
+ran-out-requires c κs =
+    let p = c .before .before .pre in
+    let b = below-led _ (p .drop-is) (p .four) in
+    omega (arith, b .half, b .all, p .width-is, p .top)
+
 returns : tie.Need-returns
 returns c =
-    let start = c .before .before in
+    let start = c .before .before .before in
     let a = start .args in
-    led-out _ (a .at) (a .end) (a .drop) (a .sign) (a .place) _ (start .pre .end-is) (start .pre .top) (start .pre .width-is) (c .if1 .taken)
+    c .ran-out .ensures
+    ∙ led-out _ (a .at) (a .end) (a .drop) (a .sign) (a .place) _ (start .pre .end-is) (start .pre .top) (start .pre .width-is) (c .before .if1 .taken)
 
 field-requires : tie.Need-field-requires
 field-requires c κs =
@@ -29,8 +37,8 @@ fill-requires c κs =
     (at-field .field .ensures .1) in
     (omega (arith, p .top), omega (arith, fits))
 
-add-t16 : tie.Need-add-t16
-add-t16 c =
+add-t17 : tie.Need-add-t17
+add-t17 c =
     let at-power = c .before in
     let at-field = at-power .before in
     let start = at-field .before .before .before in
@@ -65,5 +73,6 @@ returns-2 c =
 pub led-spec : {M : Type 1} → statement M
 led-spec =
     tie.close
-    (tie.spec (λ c. search needs) returns field-requires (λ c. search needs) (λ c κs. search needs) fill-requires add-t16 sub-power
+    (tie.spec (λ c. search needs) (λ c. search needs) (λ c. search needs) ran-out-requires returns field-requires (λ c. search needs) (λ c κs. search needs)
+    fill-requires add-t17 sub-power
     (λ c κs. search needs) (λ c. search needs) returns-2)

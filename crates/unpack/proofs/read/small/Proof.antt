@@ -13,8 +13,9 @@ sub-width c = omega (arith, drop-small (c .before .before .pre .0 .drop-is), c .
 
 returns : tie.Need-returns
 returns c =
-    let at-wide = c .before in
-    small-out _ _ _ _ _ _ (at-wide .before .before .pre .0 .end-is) (at-wide .wide .ensures) (c .if1 .taken)
+    let at-if = c .before in
+    let at-wide = at-if .before in
+    c .ran-out .ensures ∙ small-out _ _ _ _ _ _ (at-wide .before .before .pre .0 .end-is) (at-wide .wide .ensures) (at-if .if1 .taken)
 
 returns-2 : tie.Need-returns-2
 returns-2 c =
@@ -47,5 +48,5 @@ returns-3 c =
 pub small-spec : {M : Type 1} → statement M
 small-spec =
     tie.close
-    (tie.spec (λ c κs. search needs) sub-width (λ c. search needs) (λ c. search needs) returns (λ c κs. search needs) (λ c. search needs)
-    (λ c. search needs) (λ c κs. search needs) returns-2 fill-requires (λ c κs. search needs) returns-3)
+    (tie.spec (λ c κs. search needs) sub-width (λ c. search needs) (λ c. search needs) (λ c. search needs) (λ c. search needs) (λ c κs. search needs)
+    returns (λ c κs. search needs) (λ c. search needs) (λ c. search needs) (λ c κs. search needs) returns-2 fill-requires (λ c κs. search needs) returns-3)
