@@ -8,7 +8,7 @@ mod plain;
 #[allow(dead_code)]
 mod raw;
 
-use plain::{Histogram, Inputs, Window};
+use plain::{Histogram, Inputs, Unread, Window};
 use std::hint::black_box;
 use std::time::{Duration, Instant};
 
@@ -121,11 +121,11 @@ fn pack(buffer: &mut [u8], at: u64, value: i32, drop: u8) -> Result<u64, u8> {
     }
 }
 
-fn unpack(bytes: &[u8], at: u64, drop: u8) -> Result<(i32, u64), u8> {
-    let (mut value, mut next) = (0, 0);
-    match unsafe { raw::plv_code_unpack(bytes.as_ptr(), bytes.len(), at, drop, &mut value, &mut next) } {
+fn unpack(bytes: &[u8], at: u64, drop: u8) -> Result<(i32, u64), Unread> {
+    let (mut value, mut next, mut missing) = (0, 0, 0);
+    match unsafe { raw::plv_code_unpack(bytes.as_ptr(), bytes.len(), at, drop, &mut value, &mut next, &mut missing) } {
         0 => Ok((value, next)),
-        number => Err(number),
+        number => Err(Unread { number, missing }),
     }
 }
 
@@ -329,7 +329,7 @@ fn pack_run(pack: impl Fn(&mut [u8], u64, i32, u8) -> Result<u64, u8>, buffer: &
 }
 
 /// So many codes read one after the other; their sum.
-fn unpack_run(unpack: impl Fn(&[u8], u64, u8) -> Result<(i32, u64), u8>, bytes: &[u8], count: usize, drop: u8) -> i64 {
+fn unpack_run(unpack: impl Fn(&[u8], u64, u8) -> Result<(i32, u64), Unread>, bytes: &[u8], count: usize, drop: u8) -> i64 {
     let (mut at, mut sum) = (0, 0);
     for _ in 0..count {
         let (value, next) = unpack(bytes, at, drop).unwrap();
@@ -337,6 +337,15 @@ fn unpack_run(unpack: impl Fn(&[u8], u64, u8) -> Result<(i32, u64), u8>, bytes: 
         at = next;
     }
     sum
+}
+
+/// Codes from these positions on, each cut where the byte that it begins in ends, and refused by 9; the bits missing in all.
+fn cut_run(unpack: impl Fn(&[u8], u64, u8) -> Result<(i32, u64), Unread>, bytes: &[u8], begins: &[u64], drop: u8) -> u64 {
+    let missing = |&at: &u64| match unpack(&bytes[..at as usize / 8 + 1], at, drop) {
+        Err(Unread { number: 9, missing }) => missing as u64,
+        answer => panic!("not cut: {answer:?}"),
+    };
+    begins.iter().map(missing).sum()
 }
 
 fn codes(random: &mut Random) {
@@ -353,6 +362,8 @@ fn codes(random: &mut Random) {
                     black_box(pack_run(plain::pack, black_box(&mut second), black_box(&numbers), drop));
                 },
             );
+            // once more, for where the row above was not asked for
+            assert_eq!(pack_run(pack, &mut first, &numbers, drop), pack_run(plain::pack, &mut second, &numbers, drop));
             assert_eq!(first, second);
             assert_eq!(unpack_run(unpack, &first, 1000, drop), unpack_run(plain::unpack, &first, 1000, drop));
             row(
@@ -365,6 +376,28 @@ fn codes(random: &mut Random) {
                 },
             );
         }
+    }
+}
+
+/// Codes of large numbers that are cut short; drawn by themselves, so that the rows behind them keep their inputs.
+fn cut_codes() {
+    let mut random = Random(2);
+    for drop in [0, 3] {
+        let (mut bytes, mut begins, mut at) = (vec![0; 4000], Vec::new(), 0);
+        for _ in 0..1000 {
+            begins.push(at);
+            at = pack(&mut bytes, at, (plain::LARGEST / 2 + random.next() % (plain::LARGEST / 2)) as i32, drop).unwrap();
+        }
+        assert_eq!(cut_run(unpack, &bytes, &begins, drop), cut_run(plain::unpack, &bytes, &begins, drop));
+        row(
+            &format!("unpack 1,000 codes cut short, drop {drop}"),
+            || {
+                black_box(cut_run(unpack, black_box(&bytes), black_box(&begins), drop));
+            },
+            || {
+                black_box(cut_run(plain::unpack, black_box(&bytes), black_box(&begins), drop));
+            },
+        );
     }
 }
 
@@ -590,6 +623,7 @@ fn main() {
     writing(&mut random);
     messages(&mut random);
     codes(&mut random);
+    cut_codes();
     logarithms(&mut random);
     asks();
     packet_asks();

@@ -154,56 +154,80 @@ pub fn pack(buffer: &mut [u8], at: u64, value: i32, drop: u8) -> Result<u64, u8>
     Ok(end)
 }
 
-fn bit(bytes: &[u8], at: u64) -> Result<u64, u8> {
-    if at >= 1 << 63 {
-        return Err(9);
-    }
-    let byte = bytes.get((at / 8) as usize).ok_or(9)?;
-    Ok((byte >> (7 - at % 8) & 1) as u64)
+/// Why a code is not read: the number, and with 9 how many bits are missing at least.
+#[derive(Debug)]
+pub struct Unread {
+    pub number: u8,
+    pub missing: u8,
 }
 
-fn field(bytes: &[u8], at: &mut u64, count: u64) -> Result<u64, u8> {
+fn unread(number: u8) -> Unread {
+    Unread { number, missing: 0 }
+}
+
+fn bit(bytes: &[u8], at: u64) -> Option<u64> {
+    if at >= 1 << 63 {
+        return None;
+    }
+    let byte = bytes.get((at / 8) as usize)?;
+    Some((byte >> (7 - at % 8) & 1) as u64)
+}
+
+/// So many bits, behind which so many more stand at least.
+fn field(bytes: &[u8], at: &mut u64, count: u64, behind: u64) -> Result<u64, Unread> {
     let mut value = 0;
-    for _ in 0..count {
-        value = value << 1 | bit(bytes, *at)?;
+    for read in 0..count {
+        value = value << 1 | bit(bytes, *at).ok_or_else(|| Unread { number: 9, missing: (count - read + behind) as u8 })?;
         *at += 1;
     }
     Ok(value)
 }
 
+/// The bits behind a run of ones and its zero.
+fn behind_run(ones: u64, drop: u64) -> u64 {
+    match ones {
+        0 => 4 - drop,
+        1 => 3 - drop,
+        _ => ones + 2 - drop,
+    }
+}
+
 #[cfg_attr(called, inline(never))]
-pub fn unpack(bytes: &[u8], at: u64, drop: u8) -> Result<(i32, u64), u8> {
+pub fn unpack(bytes: &[u8], at: u64, drop: u8) -> Result<(i32, u64), Unread> {
     if !matches!(drop, 0 | 3) {
-        return Err(8);
+        return Err(unread(8));
+    }
+    if at >= 1 << 63 || at > 8 * bytes.len() as u64 {
+        return Err(unread(9));
     }
     let drop = drop as u64;
     let mut at = at;
-    if field(bytes, &mut at, 1)? == 0 {
+    if field(bytes, &mut at, 1, 0)? == 0 {
         return Ok((0, at));
     }
-    let negative = field(bytes, &mut at, 1)? == 1;
+    let negative = field(bytes, &mut at, 1, 5 - drop)? == 1;
     let mut ones = 0;
-    while field(bytes, &mut at, 1)? == 1 {
+    while field(bytes, &mut at, 1, behind_run(ones, drop))? == 1 {
         ones += 1;
         if ones > LONGEST {
-            return Err(11);
+            return Err(unread(11));
         }
     }
     let (front, sent, left) = match ones {
         0 => (0, 4 - drop, drop),
         1 => (1, 3 - drop, 1 + drop),
         _ => {
-            let even = field(bytes, &mut at, 1)?;
-            if ones == LONGEST && even == 1 {
-                return Err(11);
-            }
             let sent = ones + 1 - drop;
+            let even = field(bytes, &mut at, 1, sent)?;
+            if ones == LONGEST && even == 1 {
+                return Err(unread(11));
+            }
             (1, sent, 2 * ones + 1 + even - sent)
         }
     };
-    let value = field(bytes, &mut at, sent)?;
+    let value = field(bytes, &mut at, sent, 0)?;
     if ones == 0 && drop == 0 && value == 0 {
-        return Err(10);
+        return Err(unread(10));
     }
     let magnitude = match left {
         0 => front << sent | value,

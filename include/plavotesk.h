@@ -1,8 +1,8 @@
 /* Plavotesk for C: the proved calls on packets, messages, packed codes, count formats, cadence and histogram memory.
  *
  * Every call takes all inputs. Those that answer uint8_t answer a refusal number, 0 where they are accepted; the others refuse
- * nothing. On a refusal nothing is written, but for the bytes skipped with PLV_NO_PACKET. After each call's explanation stand
- * its refusals, in the order in which they are looked for.
+ * nothing. On a refusal nothing is written, but for the bytes skipped with PLV_NO_PACKET and the bits missing with
+ * PLV_BITS_RAN_OUT. After each call's explanation stand its refusals, in the order in which they are looked for.
  *
  * A slice is a pointer and a length, which counts elements, not bytes. What is lent must be there: every pointer is aligned for
  * its type and not null, not even where the length is 0 (the proofs speak of memory that exists, and a slice of nothing has a
@@ -48,7 +48,7 @@ enum plv_refusal {
 };
 
 /* The version of this interface: a library of another version has other calls, or other state words. */
-#define PLV_VERSION 3
+#define PLV_VERSION 4
 
 /* A number that must be looked at: a refused call changed nothing. */
 #if defined(__GNUC__)
@@ -141,18 +141,21 @@ PLV_ANSWERS uint8_t plv_code_pack(uint8_t *buffer, size_t buffer_length, uint64_
 
 /* Reads the code at a bit position, and answers the number that it decodes to and the next position. That number is not the count
  * that went in: a code stands for a band of counts, which plv_reading answers. Zeros that pad the last byte read as codes of 0:
- * know how many codes there are; 8, 9, 10, 11. */
-PLV_ANSWERS uint8_t plv_code_unpack(const uint8_t *bytes, size_t bytes_length, uint64_t at, uint8_t drop, int32_t *value, uint64_t *next);
+ * know how many codes there are. missing is written with 9 alone: the least number of further bits, up to 15, with which some code
+ * could be completed from what was read (1 at the end exactly, 0 from any other position past it); 8, 9 with the bits missing, 10,
+ * 11. */
+PLV_ANSWERS uint8_t plv_code_unpack(const uint8_t *bytes, size_t bytes_length, uint64_t at, uint8_t drop, int32_t *value, uint64_t *next,
+                                    uint8_t *missing);
 
-/* Reads the count at a bit position: the edges of its band, and 1 where it is exact (both edges are the count), else 0; 8, 9, 10,
- * 11, and 8 for a negative number. */
+/* Reads the count at a bit position: the edges of its band, and 1 where it is exact (both edges are the count), else 0; 8, 9 with
+ * the bits missing as of plv_code_unpack, 10, 11, and 8 for a negative number. */
 PLV_ANSWERS uint8_t plv_reading(const uint8_t *bytes, size_t bytes_length, uint64_t at, uint8_t drop, double *low, double *high,
-                                uint8_t *exact, uint64_t *next);
+                                uint8_t *exact, uint64_t *next, uint8_t *missing);
 
-/* Reads the count at a bit position as a rate over the seconds of a level: both edges, each divided once; as for a reading, then
- * 19. */
+/* Reads the count at a bit position as a rate over the seconds of a level: both edges, each divided once; as for a reading, 9 with
+ * the bits missing, then 19. */
 PLV_ANSWERS uint8_t plv_rate(const uint8_t *bytes, size_t bytes_length, uint64_t at, uint8_t drop, uint8_t level, double *low,
-                             double *high, double *seconds, uint64_t *next);
+                             double *high, double *seconds, uint64_t *next, uint8_t *missing);
 
 /* A count to its 16-bit float and back; 12. */
 PLV_ANSWERS uint8_t plv_float16_code(uint64_t count, uint16_t *code);

@@ -4,11 +4,12 @@
 #include <string.h>
 #include "plavotesk.h"
 
-/* The start of a line, and the refusal where there is one; whether the call was accepted. */
+/* The start of a line, and the refusal where there is one; whether the call was accepted. What a refusal carries ends its line. */
 static int accepted(const char *name, uint8_t number) {
+    int carries = number == PLV_BITS_RAN_OUT || (number == PLV_NO_PACKET && strncmp(name, "find", 4) == 0);
     printf("%s: ", name);
     if (number != PLV_ACCEPTED) {
-        printf("refused %u: %s%s", number, plv_refusal_words(number), number == PLV_NO_PACKET && strncmp(name, "find", 4) == 0 ? "" : "\n");
+        printf("refused %u: %s%s", number, plv_refusal_words(number), carries ? "" : "\n");
     }
     return number == PLV_ACCEPTED;
 }
@@ -100,38 +101,59 @@ static void messages(void) {
     one("write message into too little", number, written);
 }
 
+/* What the place of the bits missing holds before each call, a number that is never written. */
+enum { HELD = 99 };
+
+/* The bits missing end the line of a refusal by 9; with any other answer the place keeps what it held. */
+static void bits_missing(uint8_t number, uint8_t missing) {
+    if (number == PLV_BITS_RAN_OUT && missing == 0) {
+        printf(" (the position lies past the end)\n");
+    } else if (number == PLV_BITS_RAN_OUT) {
+        printf(" (at least %u more %s missing)\n", missing, missing == 1 ? "bit is" : "bits are");
+    } else if (missing != HELD) {
+        printf("answered %u, and %u written as the bits missing\n", number, missing);
+    }
+}
+
 static void unpack(const char *name, const uint8_t *bytes, size_t length, uint64_t at, uint8_t drop) {
     int32_t value = 0;
     uint64_t next = 0;
-    if (accepted(name, plv_code_unpack(bytes, length, at, drop, &value, &next))) {
+    uint8_t missing = HELD, number = plv_code_unpack(bytes, length, at, drop, &value, &next, &missing);
+    if (accepted(name, number)) {
         printf("%" PRId32 " %" PRIu64 "\n", value, next);
     }
+    bits_missing(number, missing);
 }
 
 static void rate(const char *name, const uint8_t *bytes, size_t length, uint64_t at, uint8_t drop, uint8_t level) {
     double low = 0, high = 0, seconds = 0;
     uint64_t next = 0;
-    if (accepted(name, plv_rate(bytes, length, at, drop, level, &low, &high, &seconds, &next))) {
+    uint8_t missing = HELD, number = plv_rate(bytes, length, at, drop, level, &low, &high, &seconds, &next, &missing);
+    if (accepted(name, number)) {
         printf("%.3f to %.3f over %.1f %" PRIu64 "\n", low, high, seconds, next);
     }
+    bits_missing(number, missing);
 }
 
-static void reading(const uint8_t *bytes, size_t length, uint64_t at, uint8_t drop) {
+static void reading(const char *name, const uint8_t *bytes, size_t length, uint64_t at, uint8_t drop) {
     double low = 0, high = 0;
     uint8_t exact = 0;
     uint64_t next = 0;
-    if (accepted("reading", plv_reading(bytes, length, at, drop, &low, &high, &exact, &next))) {
+    uint8_t missing = HELD, number = plv_reading(bytes, length, at, drop, &low, &high, &exact, &next, &missing);
+    if (accepted(name, number)) {
         if (exact) {
             printf("exactly %.1f %" PRIu64 "\n", low, next);
         } else {
             printf("%.1f to %.1f %" PRIu64 "\n", low, high, next);
         }
     }
+    bits_missing(number, missing);
 }
 
 static void codes(void) {
     static const int32_t values[] = {0, 5, -16, 32, 100, 3, 4, 33554431, 33554432, 67108863, 67108864, -67108863, 5};
-    static const uint8_t drops[] = {0, 0, 0, 0, 0, 3, 3, 0, 0, 0, 0, 3, 1}, zero[1];
+    static const uint8_t drops[] = {0, 0, 0, 0, 0, 3, 3, 0, 0, 0, 0, 3, 1}, zero[1], redundant[] = {0x80}, ones[] = {0xff};
+    static const uint64_t positions[] = {8, 9, 1ull << 63, UINT64_MAX};
     uint8_t buffer[4];
     char name[40];
     for (int i = 0; i < 13; i++) {
@@ -142,7 +164,7 @@ static void codes(void) {
         one(name, number, next);
         hex("bits", buffer, 4);
         unpack("unpack", buffer, 4, 3, drops[i]);
-        reading(buffer, 4, 3, drops[i]);
+        reading("reading", buffer, 4, 3, drops[i]);
         rate("rate", buffer, 4, 3, drops[i], 1);
     }
     uint64_t next = 0;
@@ -150,6 +172,55 @@ static void codes(void) {
     one("pack into nothing", number, next);
     unpack("unpack nothing", zero, 0, 0, 0);
     rate("rate at level 8", zero, 1, 0, 0, 8);
+    rate("rate of a cut code at level 8", ones, 1, 0, 0, 8);
+    unpack("unpack a redundant zero", redundant, 1, 0, 0);
+    reading("reading of a redundant zero", redundant, 1, 0, 0);
+    rate("rate of a redundant zero", redundant, 1, 0, 0, 1);
+    for (int i = 0; i < 4; i++) {
+        snprintf(name, sizeof name, "unpack at %" PRIu64, positions[i]);
+        unpack(name, zero, 1, positions[i], 0);
+    }
+}
+
+/* A packet with four counts of 0 and one of 67,108,863, 33 bits. Its data cut by one bit and cut by many are told apart, by whatever reads
+ * them; where nothing is left the position lies past the end. */
+static void cut_packet(void) {
+    static const int32_t counts[] = {0, 0, 0, 0, 67108863};
+    uint8_t data[5] = {0}, packet[15] = {0};
+    uint64_t at = 0, written = 0, start = 0, length = 0;
+    char name[80];
+    for (int i = 0; i < 5; i++) {
+        if (plv_code_pack(data, 5, at, counts[i], 0, &at) != PLV_ACCEPTED) {
+            printf("not packed\n");
+        }
+    }
+    if (plv_packet_write(packet, 15, 0x0301, data, 5, &written) != PLV_ACCEPTED) {
+        printf("not written\n");
+    }
+    plv_packet_payload(packet, 15, 0, &start, &length);
+    for (int left = 5; left >= 0; left--) {
+        snprintf(name, sizeof name, "unpack from %d of %" PRIu64 " bytes", left, length);
+        unpack(name, packet + start, left, 4, 0);
+        snprintf(name, sizeof name, "reading from %d of %" PRIu64 " bytes", left, length);
+        reading(name, packet + start, left, 4, 0);
+        snprintf(name, sizeof name, "rate from %d of %" PRIu64 " bytes", left, length);
+        rate(name, packet + start, left, 4, 0, 1);
+    }
+}
+
+/* The bits missing of the longest code, cut before its first bit, before its second, and so on to its last. */
+static void cut_everywhere(uint8_t drop, uint64_t bits) {
+    printf("bits missing with drop %u:", drop);
+    for (uint64_t before = 0; before < bits; before++) {
+        uint64_t left = (before + 7) / 8, at = 8 * left - before, next = 0;
+        uint8_t code[5] = {0}, missing = HELD;
+        int32_t value = 0;
+        if (plv_code_pack(code, 5, at, 67108863, drop, &next) == PLV_ACCEPTED &&
+            plv_code_unpack(code, left, at, drop, &value, &next, &missing) == PLV_BITS_RAN_OUT) {
+            printf(" %u", missing);
+        }
+    }
+    printf("\n");
 }
 
 static void floats(void) {
@@ -360,6 +431,9 @@ int main(void) {
     packets();
     messages();
     codes();
+    cut_packet();
+    cut_everywhere(0, 29);
+    cut_everywhere(3, 26);
     floats();
     logarithms();
     cadence();

@@ -75,6 +75,40 @@ def codes():
     line('pack into nothing', lambda: plavotesk.code_pack(bytearray(), 0, 5, 0))
     line('unpack nothing', lambda: plavotesk.code_unpack(b'', 0, 0), pair)
     line('rate at level 8', lambda: plavotesk.rate(b'\0', 0, 0, 8), rates)
+    line('rate of a cut code at level 8', lambda: plavotesk.rate(b'\xff', 0, 0, 8), rates)
+    line('unpack a redundant zero', lambda: plavotesk.code_unpack(b'\x80', 0, 0), pair)
+    line('reading of a redundant zero', lambda: plavotesk.reading(b'\x80', 0, 0), reads)
+    line('rate of a redundant zero', lambda: plavotesk.rate(b'\x80', 0, 0, 1), rates)
+    for at in (8, 9, 1 << 63, (1 << 64) - 1):
+        line(f'unpack at {at}', lambda: plavotesk.code_unpack(b'\0', at, 0), pair)
+
+
+def cut_packet():
+    """A packet with four counts of 0 and one of 67,108,863, 33 bits. Its data cut by one bit and cut by many are told apart, by whatever reads
+    them; where nothing is left the position lies past the end."""
+    data, packet, at = bytearray(5), bytearray(15), 0
+    for count in (0, 0, 0, 0, 67108863):
+        at = plavotesk.code_pack(data, at, count, 0)
+    plavotesk.packet_write(packet, 0x0301, data)
+    data = plavotesk.packet_payload(packet, 0)
+    for left in (5, 4, 3, 2, 1, 0):
+        line(f'unpack from {left} of {len(data)} bytes', lambda: plavotesk.code_unpack(data[:left], 4, 0), pair)
+        line(f'reading from {left} of {len(data)} bytes', lambda: plavotesk.reading(data[:left], 4, 0), reads)
+        line(f'rate from {left} of {len(data)} bytes', lambda: plavotesk.rate(data[:left], 4, 0, 1), rates)
+
+
+def cut_everywhere(drop, bits):
+    """The bits missing of the longest code, cut before its first bit, before its second, and so on to its last."""
+    missing = []
+    for before in range(bits):
+        left = (before + 7) // 8
+        code, at = bytearray(5), 8 * left - before
+        plavotesk.code_pack(code, at, 67108863, drop)
+        try:
+            plavotesk.code_unpack(code[:left], at, drop)
+        except plavotesk.BitsRanOut as refusal:
+            missing.append(refusal.carried)
+    print(f'bits missing with drop {drop}:', *missing)
 
 
 def counts():
@@ -188,6 +222,9 @@ print('version: as it should be')
 packets()
 messages()
 codes()
+cut_packet()
+cut_everywhere(0, 29)
+cut_everywhere(3, 26)
 counts()
 histogram()
 packet_asks()

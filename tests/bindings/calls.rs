@@ -47,6 +47,21 @@ fn messages() {
     line("write message into too little", message_write(&mut buffer[..5], Message { address: 0, tag: 0, value: 0 }), |n| n.to_string());
 }
 
+fn unpacks((value, next): (i32, u64)) -> String {
+    format!("{value} {next}")
+}
+
+fn reads((reading, next): (Reading, u64)) -> String {
+    match reading {
+        Reading::Exact(count) => format!("exactly {count:.1} {next}"),
+        Reading::Between(low, high) => format!("{low:.1} to {high:.1} {next}"),
+    }
+}
+
+fn rates((rate, next): (Rate, u64)) -> String {
+    format!("{:.3} to {:.3} over {:.1} {next}", rate.low, rate.high, rate.seconds)
+}
+
 fn codes() {
     let cases = [(0, 0), (5, 0), (-16, 0), (32, 0), (100, 0), (3, 3), (4, 3)];
     let ends = [(33_554_431, 0), (33_554_432, 0), (67_108_863, 0), (67_108_864, 0), (-67_108_863, 3)];
@@ -54,17 +69,52 @@ fn codes() {
         let mut buffer = [0xff; 4];
         line(&format!("pack {value} drop {drop}"), code_pack(&mut buffer, 3, value, drop), |next| next.to_string());
         println!("bits: {}", hex(&buffer));
-        line("unpack", code_unpack(&buffer, 3, drop), |(value, next)| format!("{value} {next}"));
-        let reads = |(reading, next)| match reading {
-            Reading::Exact(count) => format!("exactly {count:.1} {next}"),
-            Reading::Between(low, high) => format!("{low:.1} to {high:.1} {next}"),
-        };
+        line("unpack", code_unpack(&buffer, 3, drop), unpacks);
         line("reading", reading(&buffer, 3, drop), reads);
-        line("rate", rate(&buffer, 3, drop, 1), |(r, next)| format!("{:.3} to {:.3} over {:.1} {next}", r.low, r.high, r.seconds));
+        line("rate", rate(&buffer, 3, drop, 1), rates);
     }
     line("pack into nothing", code_pack(&mut [], 0, 5, 0), |next| next.to_string());
-    line("unpack nothing", code_unpack(&[], 0, 0), |(value, next)| format!("{value} {next}"));
-    line("rate at level 8", rate(&[0], 0, 0, 8), |(r, next)| format!("{} {next}", r.low));
+    line("unpack nothing", code_unpack(&[], 0, 0), unpacks);
+    line("rate at level 8", rate(&[0], 0, 0, 8), rates);
+    line("rate of a cut code at level 8", rate(&[0xff], 0, 0, 8), rates);
+    line("unpack a redundant zero", code_unpack(&[0x80], 0, 0), unpacks);
+    line("reading of a redundant zero", reading(&[0x80], 0, 0), reads);
+    line("rate of a redundant zero", rate(&[0x80], 0, 0, 1), rates);
+    for at in [8, 9, 1 << 63, u64::MAX] {
+        line(&format!("unpack at {at}"), code_unpack(&[0], at, 0), unpacks);
+    }
+}
+
+/// A packet with four counts of 0 and one of 67,108,863, 33 bits. Its data cut by one bit and cut by many are told apart, by whatever reads
+/// them; where nothing is left the position lies past the end.
+fn cut_packet() -> Result<(), Box<dyn Error>> {
+    let (mut data, mut packet, mut at) = ([0; 5], [0; 15], 0);
+    for count in [0, 0, 0, 0, 67_108_863] {
+        at = code_pack(&mut data, at, count, 0)?;
+    }
+    packet_write(&mut packet, 0x0301, &data)?;
+    let data = packet_payload(&packet, 0);
+    for left in (0..6).rev() {
+        line(&format!("unpack from {left} of {} bytes", data.len()), code_unpack(&data[..left], 4, 0), unpacks);
+        line(&format!("reading from {left} of {} bytes", data.len()), reading(&data[..left], 4, 0), reads);
+        line(&format!("rate from {left} of {} bytes", data.len()), rate(&data[..left], 4, 0, 1), rates);
+    }
+    Ok(())
+}
+
+/// The bits missing of the longest code, cut before its first bit, before its second, and so on to its last.
+fn cut_everywhere(drop: u8, bits: usize) -> Result<(), Box<dyn Error>> {
+    print!("bits missing with drop {drop}:");
+    for before in 0..bits {
+        let left = before.div_ceil(8);
+        let (mut code, at) = ([0; 5], (8 * left - before) as u64);
+        code_pack(&mut code, at, 67_108_863, drop)?;
+        if let Err(Refusal::BitsRanOut { missing }) = code_unpack(&code[..left], at, drop) {
+            print!(" {missing}");
+        }
+    }
+    println!();
+    Ok(())
 }
 
 fn counts() {
@@ -269,6 +319,9 @@ fn main() -> Result<(), Box<dyn Error>> {
     packets();
     messages();
     codes();
+    cut_packet()?;
+    cut_everywhere(0, 29)?;
+    cut_everywhere(3, 26)?;
     counts();
     histogram()?;
     packet_asks()

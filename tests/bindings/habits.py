@@ -70,8 +70,8 @@ def numbers():
         refused(8, lambda: plavotesk.code_pack(buffer, 0, value, 0))
     for drop in (1, 256, 2 ** 80, -1):
         refused(8, lambda: plavotesk.code_unpack(buffer, 0, drop))
-    for at in (128, 2 ** 63, 2 ** 64, 2 ** 80):
-        refused(9, lambda: plavotesk.code_unpack(buffer, at, 0))
+    for at, missing in ((128, 1), (129, 0), (2 ** 63, 0), (2 ** 64, 0), (2 ** 80, 0)):
+        assert refused(9, lambda: plavotesk.code_unpack(buffer, at, 0)).carried == missing
         refused(3, lambda: plavotesk.code_pack(buffer, at, 5, 0))
     for message in (Message(0, 256, 0), Message(0, 3, 2 ** 64), Message(0, 3, -1), Message(2 ** 14, 0, 0), Message(-1, 0, 0)):
         refused(7, lambda: plavotesk.message_write(buffer, message))
@@ -196,7 +196,35 @@ def iterators():
         assert list(plavotesk.codes(given, 6, 0, 3)) == [0, 1, 15, 16, 99, 5023], list(plavotesk.codes(given, 6, 0, 3))
         assert [reading.low <= value <= reading.high for value, reading in zip(said, plavotesk.readings(given, 6, 0, 3))] == [True] * 6
         assert [rate.seconds for rate in plavotesk.rates(given, 6, 0, 1, 3)] == [5.0] * 6
-    refused(9, lambda: list(plavotesk.codes(b'\xff', 1, 0)))
+    assert refused(9, lambda: list(plavotesk.codes(b'\xff', 1, 0))).carried == 9
+
+
+def cut_codes():
+    """A packet's codes cut by one bit and cut by many are told apart, one by one and in a row; no other refusal carries bits."""
+    data, at, said = bytearray(5), 0, [0, 0, 0, 0, 67108863]
+    for value in said:
+        at = plavotesk.code_pack(data, at, value, 0)
+    packet = bytearray(15)
+    plavotesk.packet_write(packet, 0x301, data)
+    data = plavotesk.packet_payload(packet, 0)
+    for left, missing, words in ((4, 1, 'at least 1 more bit is missing'), (3, 9, 'at least 9 more bits are missing'),
+                                 (1, 5, 'at least 5 more bits are missing'), (0, 0, 'the position lies past the end')):
+        cut = data[:left]
+        for call in (lambda: plavotesk.code_unpack(cut, 4, 0), lambda: plavotesk.reading(cut, 4, 0), lambda: plavotesk.rate(cut, 4, 0, 1)):
+            refusal = refused(9, call)
+            assert (refusal.carried, str(refusal)) == (missing, f'refused 9: bits ran out ({words})'), refusal
+    for left, missing in ((4, 1), (3, 9), (1, 5)):
+        cut = data[:left]
+        for run in (plavotesk.codes(cut, 5, 0), plavotesk.readings(cut, 5, 0), plavotesk.rates(cut, 5, 0, 1)):
+            assert len([next(run) for _ in range(4)]) == 4
+            assert refused(9, lambda: next(run)).carried == missing
+    for number, given, drop in ((8, b'\0', 1), (8, b'', 1), (10, b'\x80', 0), (11, b'\xff\xff', 0)):
+        assert refused(number, lambda: plavotesk.code_unpack(given, 0, drop)).carried is None
+        assert refused(number, lambda: plavotesk.reading(given, 0, drop)).carried is None
+        assert refused(number, lambda: plavotesk.rate(given, 0, drop, 1)).carried is None
+    assert refused(8, lambda: plavotesk.reading(b'\xe0', 0, 0)).carried is None
+    assert refused(19, lambda: plavotesk.rate(b'\0', 0, 0, 8)).carried is None
+    assert refused(9, lambda: plavotesk.rate(b'', 0, 0, 8)).carried == 1
 
 
 def copies():
@@ -206,6 +234,8 @@ def copies():
         raises(TypeError, 'a board cannot be', lambda: call(board))
     again = pickle.loads(pickle.dumps(plavotesk.NoPacket(7)))
     assert (again.number, again.carried, str(again)) == (20, 7, 'refused 20: no packet (7 bytes skipped)')
+    again = pickle.loads(pickle.dumps(plavotesk.BitsRanOut(3)))
+    assert (again.number, again.carried, str(again)) == (9, 3, 'refused 9: bits ran out (at least 3 more bits are missing)')
 
 
 def dear_mistake():
@@ -299,6 +329,6 @@ def dear_packet():
     assert ask.answer()[1:] == (0, True) and board.open_ask is None and board.next_number == 7
 
 
-for check in (threads, numbers, packet_numbers, logarithms, buffers, iterators, copies, dear_mistake, dear_packet):
+for check in (threads, numbers, packet_numbers, logarithms, buffers, iterators, cut_codes, copies, dear_mistake, dear_packet):
     check()
     print(f'{check.__name__}: as they should be')

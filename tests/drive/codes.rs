@@ -1,9 +1,10 @@
-//! Packed codes, readings and rates: numbers of every size at every position, and bits that nobody packed.
+//! Packed codes, readings and rates: numbers of every size at every position, codes cut at every bit, and bits that nobody packed.
 
-use crate::code::{LARGEST, LARGEST_ON_FILE, LONGEST};
+use crate::code::{Refusal, LARGEST, LARGEST_ON_FILE, LONGEST};
 use crate::lent::Lent;
 use crate::random::Random;
 use crate::{cadence, code, raw, some, Tally};
+use std::collections::BTreeSet;
 
 /// A drop, now and then one outside the rule.
 fn drop(random: &mut Random) -> u8 {
@@ -23,15 +24,33 @@ fn position(random: &mut Random) -> u64 {
     }
 }
 
+/// What the place for the bits missing holds before a call: never a number that 9 carries.
+fn other(held: u64) -> u8 {
+    held as u8 | 0x80
+}
+
+/// What that place holds after a refusal: what 9 carries, and with any other number what it held.
+fn left(refusal: &Refusal, held: u64) -> u8 {
+    refusal.missing.unwrap_or(other(held))
+}
+
+/// The number that a call answered, and what it carried with 9.
+fn answered(tally: &mut Tally, call: &'static str, number: u8, carrying: &'static str, missing: u8) {
+    tally.answered(call, number);
+    if number == 9 {
+        tally.answered(carrying, missing);
+    }
+}
+
 fn unpack(tally: &mut Tally, bytes: &[u8], at: u64, drop: u8, held: u64) {
-    let (mut value, mut next) = (held as i32, held);
-    let number = unsafe { raw::plv_code_unpack(bytes.as_ptr(), bytes.len(), at, drop, &mut value, &mut next) };
-    tally.answered("unpack", number);
+    let (mut value, mut next, mut missing) = (held as i32, held, other(held));
+    let number = unsafe { raw::plv_code_unpack(bytes.as_ptr(), bytes.len(), at, drop, &mut value, &mut next, &mut missing) };
+    answered(tally, "unpack", number, "unpack missing", missing);
     let plain = match code::read(bytes, at, drop) {
-        Ok(r) => (0, if r.negative { -(r.magnitude as i32) } else { r.magnitude as i32 }, at + r.taken),
-        Err(number) => (number, held as i32, held),
+        Ok(r) => (0, if r.negative { -(r.magnitude as i32) } else { r.magnitude as i32 }, at + r.taken, other(held)),
+        Err(refusal) => (refusal.number, held as i32, held, left(&refusal, held)),
     };
-    tally.compare(|| format!("unpack {bytes:02x?} at {at}, drop {drop}"), (number, value, next), plain);
+    tally.compare(|| format!("unpack {bytes:02x?} at {at}, drop {drop}"), (number, value, next, missing), plain);
 }
 
 /// The bits of a NaN, of either sign, quiet or signalling: a refused call keeps them as they are.
@@ -41,30 +60,32 @@ fn nan(held: u64) -> u64 {
 
 fn reading(tally: &mut Tally, bytes: &[u8], at: u64, drop: u8, held: u64) {
     let (mut low, mut high, mut exact, mut next) = (f64::from_bits(held), f64::from_bits(nan(held)), held as u8, held);
+    let mut missing = other(held);
     let number = unsafe {
-        raw::plv_reading(bytes.as_ptr(), bytes.len(), at, drop, &mut low, &mut high, &mut exact, &mut next)
+        raw::plv_reading(bytes.as_ptr(), bytes.len(), at, drop, &mut low, &mut high, &mut exact, &mut next, &mut missing)
     };
-    tally.answered("reading", number);
+    answered(tally, "reading", number, "reading missing", missing);
     let plain = match code::edges(bytes, at, drop) {
-        Ok((low, high, exact, next)) => (0, (low as f64).to_bits(), (high as f64).to_bits(), exact as u8, next),
-        Err(number) => (number, held, nan(held), held as u8, held),
+        Ok((low, high, exact, next)) => (0, (low as f64).to_bits(), (high as f64).to_bits(), exact as u8, next, other(held)),
+        Err(refusal) => (refusal.number, held, nan(held), held as u8, held, left(&refusal, held)),
     };
-    let proved = (number, low.to_bits(), high.to_bits(), exact, next);
+    let proved = (number, low.to_bits(), high.to_bits(), exact, next, missing);
     tally.compare(|| format!("reading of {bytes:02x?} at {at}, drop {drop}"), proved, plain);
 }
 
 fn rate(tally: &mut Tally, bytes: &[u8], at: u64, drop: u8, level: u8, held: u64) {
     let (mut low, mut high, mut seconds, mut next) = (f64::from_bits(nan(held)), f64::from_bits(held), f64::from_bits(nan(!held)), held);
+    let mut missing = other(held);
     let number = unsafe {
-        raw::plv_rate(bytes.as_ptr(), bytes.len(), at, drop, level, &mut low, &mut high, &mut seconds, &mut next)
+        raw::plv_rate(bytes.as_ptr(), bytes.len(), at, drop, level, &mut low, &mut high, &mut seconds, &mut next, &mut missing)
     };
-    tally.answered("rate", number);
-    let answer = code::edges(bytes, at, drop).and_then(|edges| cadence::seconds(level).map(|s| (edges, s as f64)));
+    answered(tally, "rate", number, "rate missing", missing);
+    let answer = code::edges(bytes, at, drop).and_then(|edges| Ok((edges, cadence::seconds(level)? as f64)));
     let plain = match answer {
-        Ok(((low, high, _, next), s)) => (0, (low as f64 / s).to_bits(), (high as f64 / s).to_bits(), s.to_bits(), next),
-        Err(number) => (number, nan(held), held, nan(!held), held),
+        Ok(((low, high, _, next), s)) => (0, (low as f64 / s).to_bits(), (high as f64 / s).to_bits(), s.to_bits(), next, other(held)),
+        Err(refusal) => (refusal.number, nan(held), held, nan(!held), held, left(&refusal, held)),
     };
-    let proved = (number, low.to_bits(), high.to_bits(), seconds.to_bits(), next);
+    let proved = (number, low.to_bits(), high.to_bits(), seconds.to_bits(), next, missing);
     tally.compare(|| format!("rate of {bytes:02x?} at {at}, drop {drop}, level {level}"), proved, plain);
 }
 
@@ -114,7 +135,8 @@ fn ranges(random: &mut Random, tally: &mut Tally) {
     }
 }
 
-/// Numbers about each power of two up to the first that is not packed: packed at some position, and read with each number of bytes cut off.
+/// Numbers about each power of two up to the first that is not packed: packed at some position, and read with each number of bytes cut off;
+/// their codes alone, cut at every bit.
 fn cuts(random: &mut Random, tally: &mut Tally) {
     for value in (0..=LARGEST.ilog2() + 1).flat_map(|k| [1 << k, (1 << k) - 1, -(1 << k), 3 << k >> 1]) {
         for drop in [0, 3] {
@@ -125,6 +147,11 @@ fn cuts(random: &mut Random, tally: &mut Tally) {
                 for length in 0..6 {
                     unpack(tally, &buffer[..length], at, drop, random.next());
                 }
+            }
+            let bits = code::code(value as i64, drop).unwrap_or_default();
+            for count in 0..=bits.len() {
+                let (bytes, at) = code::at_the_end(&bits[..count]);
+                unpack(tally, &bytes, at, drop, random.next());
             }
         }
     }
@@ -217,11 +244,62 @@ fn runs(random: &mut Random, tally: &mut Tally) {
     }
 }
 
-/// Bits that nobody packed, long runs of ones among them, as numbers, readings and rates: all short ones, then by chance.
+/// Every code of a drop, in order: those of the numbers under 32, and of larger ones whose later half is 0, since no code tells of it.
+fn every(drop: u8) -> BTreeSet<String> {
+    let larger = (5..=LARGEST.ilog2()).flat_map(|k| (1i64 << k..2 << k).step_by(1 << k / 2));
+    (0..32).chain(larger).flat_map(|m| [m, -m]).filter_map(|value| code::code(value, drop)).collect()
+}
+
+/// Bits laid into bytes so that nothing stands behind them, and before them what chance gives.
+fn laid_last(random: &mut Random, bits: &str) -> (Vec<u8>, u64) {
+    let (mut bytes, at) = code::at_the_end(bits);
+    if let Some(first) = bytes.first_mut() {
+        *first |= random.next() as u8 & !(0xffu8 >> at);
+    }
+    let before = some(random, 3);
+    let at = at + 8 * before.len() as u64;
+    ([before, bytes].concat(), at)
+}
+
+/// Every code of both drops, whole and cut at every bit, but for cuts that the code before it gave. The cut is the end of the bytes, so
+/// that its length says at which offset of a byte the code begins: all eight come about. Rates also at a level over 7: 19 comes later.
+fn every_cut(random: &mut Random, tally: &mut Tally) {
+    for drop in [0, 3] {
+        let mut before = String::new();
+        for code in every(drop) {
+            for bits in (1..=code.len()).map(|count| &code[..count]).filter(|&bits| !before.starts_with(bits)) {
+                let ((bytes, at), held) = (laid_last(random, bits), random.next());
+                read(tally, &bytes, at, drop, random.below(8) as u8, held);
+                rate(tally, &bytes, at, drop, 8 + random.below(248) as u8, held);
+            }
+            before = code;
+        }
+    }
+}
+
+/// Every position about the end of short bytes, and positions past it up to u64's end: beside each power of two, and such as would lie at
+/// the end if a bit of them were lost. Drops and levels outside the rule too.
+fn positions(random: &mut Random, tally: &mut Tally) {
+    for bytes in (0..6).flat_map(|length| [vec![0; length], vec![0xff; length], random.bytes(length)]).collect::<Vec<_>>() {
+        let end = 8 * bytes.len() as u64;
+        let powers = (3..64).flat_map(|bit| [1 << bit, end + (1 << bit)]);
+        let far = powers.flat_map(|at: u64| [at - 1, at, at + 1]).chain(u64::MAX - 20..=u64::MAX);
+        for at in (0..=end + 20).chain(far) {
+            for (drop, level) in [(0, 0), (0, 8), (3, 7), (3, 255), (1, 0), (255, 8)] {
+                read(tally, &bytes, at, drop, level, random.next());
+            }
+        }
+    }
+}
+
+/// Bits that nobody packed, long runs of ones among them, as numbers, readings and rates: all short ones, every code cut at every bit,
+/// every position about the end, then by chance.
 pub fn drive_patterns(random: &mut Random, cases: u64, tally: &mut Tally) {
     patterns(random, tally);
     chosen(random, tally);
     runs(random, tally);
+    every_cut(random, tally);
+    positions(random, tally);
     for _ in 0..cases {
         let mut bytes = some(random, 7);
         for byte in &mut bytes {

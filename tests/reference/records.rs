@@ -1,21 +1,22 @@
 //! The records that the program `vectors` is fed, and the lines that it must print: what the exported calls do not reach.
 //! A record is a letter, a drop, how many bytes it has, eight bytes of bit position, and those bytes.
 
-use crate::code::{self, LARGEST, LARGEST_ON_FILE, LONGEST};
+use crate::code::{self, Refusal, LARGEST, LARGEST_ON_FILE, LONGEST};
 use crate::random::Random;
 
 fn record(letter: u8, drop: u8, at: u64, bytes: &[u8]) -> Vec<u8> {
     [&[letter, drop, bytes.len() as u8][..], &at.to_be_bytes(), bytes].concat()
 }
 
-/// The line of a code: 0, the number and the next position; or the refusal.
+/// The line of a code: 0, the number and the next position; or the refusal, and with 9 the bits missing.
 fn code_line(bytes: &[u8], at: u64, drop: u8) -> (String, Option<u64>) {
     match code::read(bytes, at, drop) {
         Ok(r) => {
             let (sign, next) = (if r.negative { "-" } else { "" }, at + r.taken);
             (format!("0 {sign}{} {next}\n", r.magnitude), Some(next))
         }
-        Err(number) => (format!("{number}\n"), None),
+        Err(Refusal { number, missing: Some(bits) }) => (format!("{number} {bits}\n"), None),
+        Err(Refusal { number, missing: None }) => (format!("{number}\n"), None),
     }
 }
 

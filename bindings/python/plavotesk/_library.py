@@ -7,7 +7,7 @@ import pathlib
 import threading
 
 #: The version of the C interface that this package speaks (PLV_VERSION of the header).
-VERSION = 3
+VERSION = 4
 
 _u8, _u16, _u32, _u64 = ctypes.c_uint8, ctypes.c_uint16, ctypes.c_uint32, ctypes.c_uint64
 _i32, _f64 = ctypes.c_int32, ctypes.c_double
@@ -29,9 +29,9 @@ _CALLS: dict[str, tuple[list, type | None]] = {
     'plv_message_read': (_SLICE + _to(_u16, _u8, _u64, _u64), _u8),
     'plv_message_write': (_SLICE + [_u16, _u8, _u64] + _to(_u64), _u8),
     'plv_code_pack': (_SLICE + [_u64, _i32, _u8] + _to(_u64), _u8),
-    'plv_code_unpack': (_SLICE + [_u64, _u8] + _to(_i32, _u64), _u8),
-    'plv_reading': (_SLICE + [_u64, _u8] + _to(_f64, _f64, _u8, _u64), _u8),
-    'plv_rate': (_SLICE + [_u64, _u8, _u8] + _to(_f64, _f64, _f64, _u64), _u8),
+    'plv_code_unpack': (_SLICE + [_u64, _u8] + _to(_i32, _u64, _u8), _u8),
+    'plv_reading': (_SLICE + [_u64, _u8] + _to(_f64, _f64, _u8, _u64, _u8), _u8),
+    'plv_rate': (_SLICE + [_u64, _u8, _u8] + _to(_f64, _f64, _f64, _u64, _u8), _u8),
     'plv_float16_code': ([_u64] + _to(_u16), _u8),
     'plv_float16_count': ([_u16], _u64),
     'plv_float8_code': ([_u64] + _to(_u8), _u8),

@@ -10,7 +10,7 @@ from typing import Any, Iterator, NamedTuple
 
 from ._lent import Lent, held, lent, upward, whole, within
 from ._library import library
-from .refusals import NoPacket, accepted
+from .refusals import BitsRanOut, NoPacket, accepted
 
 _u8, _u16, _u32, _u64 = ctypes.c_uint8, ctypes.c_uint16, ctypes.c_uint32, ctypes.c_uint64
 _i32, _f64 = ctypes.c_int32, ctypes.c_double
@@ -152,31 +152,38 @@ def code_pack(buffer: Any, at: int, value: int, drop: int) -> int:
     return _one(library().plv_code_pack, _u64, into.address, into.length, upward('at', at, 64), value, within('drop', drop, 8))
 
 
+def _code_accepted(number: int, missing: Any) -> None:
+    """Raises the refusal of a code that is read, where it is one; 9 carries the bits missing."""
+    accepted(number, missing.value if number == BitsRanOut.number else None)
+
+
 def code_unpack(given: Any, at: int, drop: int) -> tuple[int, int]:
     """The number that the code at a bit position decodes to, and the next position. It is NOT the count that went in: a code stands for a
     band of counts, which `reading` gives. Zeros that pad the last byte read as codes of 0: know how many codes there are.
-    Refusals 8, 9, 10, 11."""
+    Refusals 8; 9, which carries the bits missing; 10, 11."""
     address, length, _keep = lent('given', given)
-    value, position = _i32(), _u64()
-    accepted(library().plv_code_unpack(address, length, upward('at', at, 64), within('drop', drop, 8), value, position))
+    value, position, missing = _i32(), _u64(), _u8()
+    asked = upward('at', at, 64), within('drop', drop, 8)
+    _code_accepted(library().plv_code_unpack(address, length, *asked, value, position, missing), missing)
     return value.value, position.value
 
 
 def reading(given: Any, at: int, drop: int) -> tuple[Reading, int]:
-    """The count at a bit position, as the edges of its band and whether it is exact; and the next position. Refusals 8, 9, 10, 11; 8 also
-    for a negative number."""
+    """The count at a bit position, as the edges of its band and whether it is exact; and the next position. Refusals 8; 9, which carries the
+    bits missing; 10, 11; 8 also for a negative number."""
     address, length, _keep = lent('given', given)
-    low, high, exact, position = _f64(), _f64(), _u8(), _u64()
-    accepted(library().plv_reading(address, length, upward('at', at, 64), within('drop', drop, 8), low, high, exact, position))
+    low, high, exact, position, missing = _f64(), _f64(), _u8(), _u64(), _u8()
+    asked = upward('at', at, 64), within('drop', drop, 8)
+    _code_accepted(library().plv_reading(address, length, *asked, low, high, exact, position, missing), missing)
     return Reading(low.value, high.value, exact.value == 1), position.value
 
 
 def rate(given: Any, at: int, drop: int, level: int) -> tuple[Rate, int]:
     """The count at a bit position as a rate over the seconds of a cadence level, and the next position. Refusals as of `reading`, then 19."""
     address, length, _keep = lent('given', given)
-    low, high, seconds, position = _f64(), _f64(), _f64(), _u64()
+    low, high, seconds, position, missing = _f64(), _f64(), _f64(), _u64(), _u8()
     asked = upward('at', at, 64), within('drop', drop, 8), within('level', level, 8)
-    accepted(library().plv_rate(address, length, *asked, low, high, seconds, position))
+    _code_accepted(library().plv_rate(address, length, *asked, low, high, seconds, position, missing), missing)
     return Rate(low.value, high.value, seconds.value), position.value
 
 

@@ -3,8 +3,9 @@ from __future__ import annotations
 
 
 class Refusal(Exception):
-    """A refused call: document 01's `number`, and what the refusal carries (`carried`: the bytes skipped, with 20; else None).
-    Nothing was changed. Each number has a class of its own below, so that one can be caught by name."""
+    """A refused call: document 01's `number`, and what the refusal carries (`carried`: the bytes skipped, with 20; with 9 the bits missing,
+    the least number with which some code could be completed from what was read, 1 at the end exactly, 0 from any other position past it;
+    else None). Nothing was changed. Each number has a class of its own below, so that one can be caught by name."""
 
     number: int = 0
     words: str = 'no refusal of document 01'
@@ -14,11 +15,20 @@ class Refusal(Exception):
         self.carried = carried
 
     def __str__(self) -> str:
-        more = '' if self.carried is None else f' ({self.carried:,} bytes skipped)'
+        more = '' if self.carried is None else f' ({_told(self.number, self.carried)})'
         return f'refused {self.number}: {self.words}{more}'
 
     def __reduce__(self) -> tuple:
         return type(self), (self.carried,)
+
+
+def _told(number: int, carried: int) -> str:
+    """What a refusal carries, in words."""
+    if number != BitsRanOut.number:
+        return f'{carried:,} bytes skipped'
+    if carried == 0:
+        return 'the position lies past the end'
+    return f'at least {carried} more {"bit is" if carried == 1 else "bits are"} missing'
 
 
 def _named(name: str, number: int, words: str) -> type[Refusal]:

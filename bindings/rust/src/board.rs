@@ -189,7 +189,7 @@ impl Histogram {
                 &mut ended,
             )
         });
-        answer(number, Fed { count, ended: Refusal::of(ended, None) })
+        answer(number, Fed { count, ended: Refusal::of(ended, 0, None) })
     }
 
     /// Exchanges the active page, where particles count, and the idle one, which is asked. Refuses nothing.

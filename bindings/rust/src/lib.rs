@@ -14,6 +14,9 @@
 //! let (decoded, _) = plavotesk::code_unpack(&buffer, 0, 0).unwrap();
 //! let (reading, _) = plavotesk::reading(&buffer, 0, 0).unwrap();
 //! assert_eq!((decoded, reading), (99, plavotesk::Reading::Between(95.0, 103.0))); // what went in lies in the band
+//!
+//! let cut = plavotesk::reading(&buffer[..1], 0, 0); // the code has 9 bits, and the last one is cut off
+//! assert_eq!(cut, Err(plavotesk::Refusal::BitsRanOut { missing: 1 }));
 //! ```
 //!
 //! The library is built for x86-64 Linux (`bin/build`); a call may come from any thread, and what one call is lent no other is lent.
@@ -28,7 +31,7 @@ pub use board::{Ask, Asked, Fed, Histogram, NotABoard, PacketAnswer, PacketAsk, 
 pub use items::{Format, Item, PacketInputs};
 pub use refusal::{Answer, Refusal};
 
-use refusal::{answer, called};
+use refusal::{answer, answer_of_code, called};
 
 /// The checksum of bytes. Refuses nothing.
 #[must_use]
@@ -49,7 +52,7 @@ pub fn packet_find(capture: &[u8]) -> Answer<Found> {
     let (mut place, mut skipped) = (0, 0);
     // SAFETY: what is lent is lent as it is; the places are ours.
     let number = called(|| unsafe { raw::plv_packet_find(capture.as_ptr(), capture.len(), &mut place, &mut skipped) });
-    match Refusal::of(number, Some(skipped)) {
+    match Refusal::of(number, 0, Some(skipped)) {
         None => Ok(Found { place: place as usize, skipped }),
         Some(refusal) => Err(refusal),
     }
@@ -155,12 +158,12 @@ pub fn code_pack(buffer: &mut [u8], at: u64, value: i32, drop: u8) -> Answer<u64
 
 /// The number that the code at a bit position decodes to, and the next position. It is not the count that went in: a code stands for a
 /// band of counts, which [`reading`] gives. Zeros that pad the last byte read as codes of 0: know how many codes there are.
-/// Refusals 8, 9, 10, 11.
+/// Refusals 8; 9, which carries the bits missing; 10, 11.
 pub fn code_unpack(bytes: &[u8], at: u64, drop: u8) -> Answer<(i32, u64)> {
-    let (mut value, mut next) = (0, 0);
+    let (mut value, mut next, mut missing) = (0, 0, 0);
     // SAFETY: what is lent is lent as it is; the places are ours.
-    let number = called(|| unsafe { raw::plv_code_unpack(bytes.as_ptr(), bytes.len(), at, drop, &mut value, &mut next) });
-    answer(number, (value, next))
+    let number = called(|| unsafe { raw::plv_code_unpack(bytes.as_ptr(), bytes.len(), at, drop, &mut value, &mut next, &mut missing) });
+    answer_of_code(number, missing, (value, next))
 }
 
 /// What a packed count means: one exact count, or a band of two.
@@ -170,14 +173,15 @@ pub enum Reading {
     Between(f64, f64),
 }
 
-/// The count at a bit position, and the next position. Refusals 8, 9, 10, 11, and 8 for a negative
+/// The count at a bit position, and the next position. Refusals 8; 9, which carries the bits missing; 10, 11, and 8 for a negative
 /// number.
 pub fn reading(bytes: &[u8], at: u64, drop: u8) -> Answer<(Reading, u64)> {
-    let (mut low, mut high, mut exact, mut next) = (0.0, 0.0, 0, 0);
+    let (mut low, mut high, mut exact, mut next, mut missing) = (0.0, 0.0, 0, 0, 0);
+    let (start, length) = (bytes.as_ptr(), bytes.len());
     // SAFETY: what is lent is lent as it is; the places are ours.
-    let number = called(|| unsafe { raw::plv_reading(bytes.as_ptr(), bytes.len(), at, drop, &mut low, &mut high, &mut exact, &mut next) });
+    let number = called(|| unsafe { raw::plv_reading(start, length, at, drop, &mut low, &mut high, &mut exact, &mut next, &mut missing) });
     let reading = if exact == 1 { Reading::Exact(low) } else { Reading::Between(low, high) };
-    answer(number, (reading, next))
+    answer_of_code(number, missing, (reading, next))
 }
 
 /// A rate: both edges of the count over the seconds of its level.
@@ -191,10 +195,11 @@ pub struct Rate {
 /// The count at a bit position as a rate over the seconds of a level, and the next position. Refusals as of
 /// [`reading`], then 19.
 pub fn rate(bytes: &[u8], at: u64, drop: u8, level: u8) -> Answer<(Rate, u64)> {
-    let (mut low, mut high, mut seconds, mut next) = (0.0, 0.0, 0.0, 0);
+    let (mut low, mut high, mut seconds, mut next, mut missing) = (0.0, 0.0, 0.0, 0, 0);
+    let (start, length) = (bytes.as_ptr(), bytes.len());
     // SAFETY: what is lent is lent as it is; the places are ours.
-    let number = called(|| unsafe { raw::plv_rate(bytes.as_ptr(), bytes.len(), at, drop, level, &mut low, &mut high, &mut seconds, &mut next) });
-    answer(number, (Rate { low, high, seconds }, next))
+    let number = called(|| unsafe { raw::plv_rate(start, length, at, drop, level, &mut low, &mut high, &mut seconds, &mut next, &mut missing) });
+    answer_of_code(number, missing, (Rate { low, high, seconds }, next))
 }
 
 /// The 16-bit float of a count. Refusal 12.

@@ -1,7 +1,7 @@
 //! The exported calls as they are: `include/plavotesk.h` in Rust's types.
 
 /// The version of the C interface that this crate speaks (PLV_VERSION of the header).
-pub const VERSION: u32 = 3;
+pub const VERSION: u32 = 4;
 
 /// The words of a histogram's state.
 pub const STATE_WORDS: usize = 323;
@@ -34,7 +34,15 @@ extern "C" {
     ) -> u8;
     pub fn plv_message_write(buffer: *mut u8, buffer_length: usize, address: u16, tag: u8, value: u64, written: &mut u64) -> u8;
     pub fn plv_code_pack(buffer: *mut u8, buffer_length: usize, at: u64, value: i32, drop: u8, next: &mut u64) -> u8;
-    pub fn plv_code_unpack(bytes: *const u8, bytes_length: usize, at: u64, drop: u8, value: &mut i32, next: &mut u64) -> u8;
+    pub fn plv_code_unpack(
+        bytes: *const u8,
+        bytes_length: usize,
+        at: u64,
+        drop: u8,
+        value: &mut i32,
+        next: &mut u64,
+        missing: &mut u8,
+    ) -> u8;
     pub fn plv_reading(
         bytes: *const u8,
         bytes_length: usize,
@@ -44,6 +52,7 @@ extern "C" {
         high: &mut f64,
         exact: &mut u8,
         next: &mut u64,
+        missing: &mut u8,
     ) -> u8;
     pub fn plv_rate(
         bytes: *const u8,
@@ -55,6 +64,7 @@ extern "C" {
         high: &mut f64,
         seconds: &mut f64,
         next: &mut u64,
+        missing: &mut u8,
     ) -> u8;
     pub fn plv_float16_code(count: u64, code: &mut u16) -> u8;
     pub fn plv_float16_count(code: u16) -> u64;

@@ -24,7 +24,11 @@ pub enum Refusal {
     /// 8: number or drop outside the rule.
     OutsideTheRule,
     /// 9: bits ran out.
-    BitsRanOut,
+    BitsRanOut {
+        /// The least number of further bits, up to 15, with which some code could be completed from what was read; 1 at the end
+        /// exactly, 0 from any other position past it.
+        missing: u8,
+    },
     /// 10: redundant zero.
     RedundantZero,
     /// 11: run of ones too long.
@@ -68,7 +72,7 @@ impl Refusal {
             Refusal::WrongChecksum => 6,
             Refusal::WrongMessage => 7,
             Refusal::OutsideTheRule => 8,
-            Refusal::BitsRanOut => 9,
+            Refusal::BitsRanOut { .. } => 9,
             Refusal::RedundantZero => 10,
             Refusal::RunTooLong => 11,
             Refusal::CountTooLarge => 12,
@@ -96,7 +100,7 @@ impl Refusal {
             Refusal::WrongChecksum => "message checksum wrong",
             Refusal::WrongMessage => "message address, tag or stray bits",
             Refusal::OutsideTheRule => "number or drop outside the rule",
-            Refusal::BitsRanOut => "bits ran out",
+            Refusal::BitsRanOut { .. } => "bits ran out",
             Refusal::RedundantZero => "redundant zero",
             Refusal::RunTooLong => "run of ones too long",
             Refusal::CountTooLarge => "count too large for the format",
@@ -113,8 +117,8 @@ impl Refusal {
         }
     }
 
-    /// The refusal of a number; 0 is none. With 20 come the bytes skipped.
-    pub(crate) fn of(number: u8, skipped: Option<u64>) -> Option<Refusal> {
+    /// The refusal of a number; 0 is none. With 9 come the bits missing, with 20 the bytes skipped.
+    pub(crate) fn of(number: u8, missing: u8, skipped: Option<u64>) -> Option<Refusal> {
         Some(match number {
             0 => return None,
             1 => Refusal::CaptureTooLong,
@@ -125,7 +129,7 @@ impl Refusal {
             6 => Refusal::WrongChecksum,
             7 => Refusal::WrongMessage,
             8 => Refusal::OutsideTheRule,
-            9 => Refusal::BitsRanOut,
+            9 => Refusal::BitsRanOut { missing },
             10 => Refusal::RedundantZero,
             11 => Refusal::RunTooLong,
             12 => Refusal::CountTooLarge,
@@ -147,6 +151,9 @@ impl fmt::Display for Refusal {
     fn fmt(&self, f: &mut fmt::Formatter) -> fmt::Result {
         write!(f, "refused {}: {}", self.number(), self.words())?;
         match self {
+            Refusal::BitsRanOut { missing: 0 } => write!(f, " (the position lies past the end)"),
+            Refusal::BitsRanOut { missing: 1 } => write!(f, " (at least 1 more bit is missing)"),
+            Refusal::BitsRanOut { missing } => write!(f, " (at least {missing} more bits are missing)"),
             Refusal::NoPacket { skipped: Some(skipped) } => write!(f, " ({skipped} bytes skipped)"),
             _ => Ok(()),
         }
@@ -179,7 +186,15 @@ pub(crate) fn called<T>(call: impl FnOnce() -> T) -> T {
 
 /// The values where the number is 0, else the refusal.
 pub(crate) fn answer<T>(number: u8, values: T) -> Answer<T> {
-    match Refusal::of(number, None) {
+    match Refusal::of(number, 0, None) {
+        None => Ok(values),
+        Some(refusal) => Err(refusal),
+    }
+}
+
+/// The same where a code is read: 9 carries the bits missing.
+pub(crate) fn answer_of_code<T>(number: u8, missing: u8, values: T) -> Answer<T> {
+    match Refusal::of(number, missing, None) {
         None => Ok(values),
         Some(refusal) => Err(refusal),
     }

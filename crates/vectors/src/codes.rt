@@ -1,5 +1,6 @@
 // Packed codes, asked of a reader.
 use crate::say;
+use code::Refusal;
 use code::Unpacked;
 
 // The code at a position.
@@ -36,6 +37,11 @@ fn next_of(answer: Unpacked, at: u64) -> u64 {
             say::more(next);
             next
         }
-        Unpacked::Refused(_) => at,
+        Unpacked::Refused(why) => {
+            if let Refusal::RanOut { missing } = why {
+                say::more(missing as u64);
+            }
+            at
+        }
     }
 }
