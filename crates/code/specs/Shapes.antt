@@ -14,7 +14,8 @@ use Rattle.ground.specs.Choice.{pick, pick-elim}
 use Rattle.ground.specs.Questions.{both-ways}
 use Rattle.ground.specs.Bits.{toBits}
 use Rattle.code.specs.Meaning.{Shape, nought, small, led, Parsed, found, ranOut, redundantZero, runTooLong, onesOf, longestRun, dropKnown, bits}
-use Rattle.code.specs.Meaning.{longestCode, leftOut, width, withParity, coded, parse, afterSign, afterRun, parityThen, ledThen, smallFound, field, fromBits}
+use Rattle.code.specs.Meaning.{longestCode, leftOut, width, withParity, coded, parse, afterSign, afterRun, parityThen, ledThen, smallFound}
+use Rattle.code.specs.Meaning.{field, fromBits}
 use Rattle.code.specs.BitLists.{allBits, allBits-take, length-toBits, fromBits-toBits, toBits-fromBits, fromBits-lt}
 
 -- the two drops
