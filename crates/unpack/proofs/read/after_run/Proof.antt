@@ -24,7 +24,7 @@ returns-2 c =
 behind-run-requires : tie.Need-behind-run-requires
 behind-run-requires c κs =
     let p = c .before .before .before .before .pre in
-    (p .0 .drop-is, p .2)
+    (p .0 .drop-is, omega (arith, p .2))
 
 ran-out-requires : tie.Need-ran-out-requires
 ran-out-requires c κs = omega (arith, c .behind-run .ensures .1)

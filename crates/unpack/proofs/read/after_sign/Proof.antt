@@ -68,7 +68,7 @@ loop-again c =
 behind-run-requires : tie.Need-behind-run-requires Inv-loop μ-loop
 behind-run-requires c κs =
     let at-loop = c .before in
-    (at-loop .before .before .pre .0 .drop-is, at-loop .loop .inv .1)
+    (at-loop .before .before .pre .0 .drop-is, omega (arith, at-loop .loop .inv .1))
 
 ran-out-requires : tie.Need-ran-out-requires Inv-loop μ-loop
 ran-out-requires c κs = omega (arith, c .behind-run .ensures .1)
