@@ -385,7 +385,7 @@ module _ (top d : ℕ) (dr : Drop d) (places : 8 ≤ top) (read : List ℕ) (ok 
 
 module _ (bytes : List ℕ) (at d : ℕ) (known : dropKnown d ≡ true) where
   -- the position decides
-  by-place : (b : Bool) → pastEnd (length (bitsThatCount bytes)) at ≡ b
+  pub by-place : (b : Bool) → pastEnd (length (bitsThatCount bytes)) at ≡ b
       → shapeMeans bytes at d ≡ pick b (refusedWith 9 0) (answerTo greatestPlace d at (drop at (bitsThatCount bytes)))
   by-place b e = ap₂ (λ (x y : Bool). pick x (pick y (refusedWith 9 0) (answerTo greatestPlace d at (drop at (bitsThatCount bytes)))) (refused 8)) known e
 

@@ -20,7 +20,7 @@ use Rattle.code.specs.Meaning.{field, smallFound, ledThen, afterRun, afterSign,
 use Rattle.code.specs.Meaning.{numberRead, unpackMeans, dropKnown, greatestPlace, largest, longestRun}
 use Rattle.code.specs.Shapes.{Drop, none, three, drop-of, drop-small, below-led, width-is, width-four, Exact, parse-exact, bits-some}
 use Rattle.code.specs.BitLists.{allBits, allBits-drop}
-use Rattle.code.specs.Missing.{behindRun, missingAfterSign, missingComputed, missing-computed}
+use Rattle.code.specs.Missing.{behindRun, missingAfterSign, missingComputed, missing-computed, by-place}
 use Rattle.code.specs.Positions.{allBits-bitsThatCount}
 use Rattle.code.specs.Magnitudes.{places, magnitude-fits}
 use Rattle.code.specs.Theorems.{read-fits}
@@ -344,18 +344,9 @@ not-past-end end at e =
     pick-elim (λ (b : Bool). b ≡ false → at ≤ end) (ltb end at) true _ (λ t f. absurd (both-ways refl f)) (λ t f. ltb-false end at t) e
 
 module _ (bytes : List ℕ) (at d : ℕ) where
-  -- reading with a known drop
-  known : dropKnown d ≡ true → positionMeans greatestPlace bytes at d ≡ shapeMeans bytes at d
-  known t = ap (λ (b : Bool). pick b (positionMeans greatestPlace bytes at d) (refused 8)) (sym t)
-
-  -- the position, past the end or not
-  by-place : (b : Bool) → pastEnd (length (bitsThatCount bytes)) at ≡ b
-      → pick b (refusedWith 9 0) (answerTo greatestPlace d at (drop at (bitsThatCount bytes))) ≡ positionMeans greatestPlace bytes at d
-  by-place b e = ap (λ (x : Bool). pick x (refusedWith 9 0) (answerTo greatestPlace d at (drop at (bitsThatCount bytes)))) (sym e)
-
   -- from a position past the end
   pub past-end : (end : ℕ) → dropKnown d ≡ true → end ≡ length (bitsThatCount bytes) → pastEnd end at ≡ true → refusedWith 9 0 ≡ shapeMeans bytes at d
-  past-end end t e h = by-place true (subst (λ (n : ℕ). pastEnd n at ≡ true) e h) ∙ known t
+  past-end end t e h = sym (by-place bytes at d t true (subst (λ (n : ℕ). pastEnd n at ≡ true) e h))
 
   -- from any other
   pub shape-is : (end : ℕ) {p : Paper ShapeValues} → dropKnown d ≡ true → end ≡ length (bitsThatCount bytes) → pastEnd end at ≡ false
@@ -363,8 +354,7 @@ module _ (bytes : List ℕ) (at d : ℕ) where
   shape-is end t e h r =
       r
       ∙ rest-answer d at end (bitsThatCount bytes) (drop-of d t) e (allBits-drop at (bitsThatCount bytes) (allBits-bitsThatCount bytes))
-      ∙ by-place false (subst (λ (n : ℕ). pastEnd n at ≡ false) e h)
-      ∙ known t
+      ∙ sym (by-place bytes at d t false (subst (λ (n : ℕ). pastEnd n at ≡ false) e h))
 
   -- with any other drop
   pub shape-refuses : dropKnown d ≡ false → refused 8 ≡ shapeMeans bytes at d
