@@ -10,7 +10,7 @@ use passes::flags_of;
 use walk::{last_cell, sound_rows, walk_window};
 
 // A window of counters: cells in rows, and whether an ask of it clears them.
-#[derive(Drop)]
+#[derive(Clone, Copy)]
 pub struct Window {
     pub address: u32,
     pub xsize: u8,
@@ -56,7 +56,7 @@ pub enum Pass {
 }
 
 // A pass as three flags: whether marked words are not seen, whether words are cleared (on trial by a mark), and whether marks are settled.
-#[derive(Drop)]
+#[derive(Clone, Copy)]
 struct Flags {
     trial: bool,
     clear: bool,
