@@ -18,7 +18,7 @@ use Rattle.code.specs.Meaning.{led, Parsed, found, ran_out, redundant_zero, run_
 use Rattle.code.specs.Meaning.{left_out, width, ones_of}
 use Rattle.code.specs.Meaning.{field, small_found, led_then, after_run, after_sign, parse, bits, values_of, answer_of, answer_to, past_end, position_means, shape_means}
 use Rattle.code.specs.Meaning.{number_read, unpack_means, drop_known, greatest_place, largest, longest_run}
-use Rattle.code.specs.Shapes.{Drop, none, three, drop_of, drop_small, below_led, width_is, width_four, Exact, parse_exact, bits_some}
+use Rattle.code.specs.Shapes.{Drop, none, three, drop_of, below_led, width_is, width_four, Exact, parse_exact, bits_some}
 use Rattle.code.specs.BitLists.{all_bits, all_bits-drop}
 use Rattle.code.specs.Missing.{behind_run, missing_after_sign, missing_computed, missing_computed_lem, by_place}
 use Rattle.code.specs.Positions.{all_bits-bits_that_count}
