@@ -10,7 +10,8 @@ use Rattle.unpack.proofs.read.after_sign.Given as goal
 abbrev pub invariant-loop-here : goal.invariant-loop-here
 invariant-loop-here l =
     (l.here ≤ l.end) × (l.ones ≤ longest_run greatest_place)
-    × (sign_answer l.drop l.end l.sign 0 (dropped l.at (bits_that_count l.bytes)) ≡ sign_answer l.drop l.end l.sign l.ones (dropped l.here (bits_that_count l.bytes)))
+    × (sign_answer l.drop l.end l.sign 0 (dropped l.at (bits_that_count l.bytes))
+    ≡ sign_answer l.drop l.end l.sign l.ones (dropped l.here (bits_that_count l.bytes)))
 
 abbrev pub decreases-loop-here : goal.decreases-loop-here
 decreases-loop-here l = l.end - l.here
