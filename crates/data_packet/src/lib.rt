@@ -32,7 +32,7 @@ pub const MOST_ITEMS: usize = 64;
 pub const MOST_DATA: usize = 233;
 
 // What building answers: the bytes written and the total of the clearing items' own sums, or why not.
-#[derive(Drop)]
+#[derive(Clone, Copy)]
 pub enum Built {
     Packet { written: u64, total: u64 },
     BufferTooShort,
