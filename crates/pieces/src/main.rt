@@ -1,6 +1,9 @@
 // The code program on small reads, a test program: it is fed a hard input, 61 bytes at a time, so that lines of every length up
 // to ten are cut by the end of a read, each at every place.
-use libc::STDIN_FILENO;
+#![tactic(auto)]
+
+// The number by which the system knows standard input.
+const STANDARD_INPUT: i32 = 0;
 
 fn main() {
     let mut input = [0u8; 61];
@@ -15,14 +18,14 @@ fn main() {
 fn print_lines(input: &mut [u8]) {
     let mut line = lines::fresh_line();
     let mut turns = u64::MAX;
-    let mut got = io::read_full(STDIN_FILENO, input);
+    let mut got = io::read_full(STANDARD_INPUT, input);
     while turns > 0 && got > 0 {
         let printed = printing::print_piece(line, &input[..got]);
         if !printed.written {
             return;
         }
         line = printed.line;
-        got = io::read_full(STDIN_FILENO, input);
+        got = io::read_full(STANDARD_INPUT, input);
         turns -= 1;
     }
     printing::print_last(line);
