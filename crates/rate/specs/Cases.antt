@@ -1,10 +1,10 @@
 -- Bands, readings and refusals, by computing; `code` has the errors of tables 14 and 15.
 -- Assumes nothing.
 use Rattle.std.specs.Prelude.{◌≡◌, refl, [], ◌∷◌}
-use Rattle.ground.specs.Paper.{accepted, refused, refused_with}
-use Rattle.code.specs.Meaning.{nought, led, parse, after_sign, bits_that_count, missing, completed}
+use Rattle.ground.specs.Paper.{accepted}
+use Rattle.code.specs.Meaning.{nought, led, parse, after_sign, bits_that_count}
 use Rattle.rate.specs.declared.record.Reading.TheVariants.{Exact, Between}
-use Rattle.rate.specs.Meaning.{as_float, reading_means, rate_means}
+use Rattle.rate.specs.Meaning.{as_float, reading_means}
 use Rattle.rate.specs.Bands.{band_of}
 
 -- drop 0's `101100000` is laid from 31 to 35
@@ -24,15 +24,3 @@ five_is_exact = refl
 pub nought_is_a_band : reading_means (240 ∷ []) 4 3 ≡ accepted (record { reading = Between (as_float 0) (as_float 3); next = 5 })
 unfolding parse after_sign bits_that_count
 nought_is_a_band = refl
-
--- "Rate: the code's refusal, then a negative number's 8, then 19": at level 8 a drop of 1, no bits, a redundant zero, thirteen ones, -16, and 5
-pub rate_refusals : rate_means (138 ∷ []) 0 1 8
-    ∷ rate_means [] 0 0 8
-    ∷ rate_means (128 ∷ []) 0 0 8
-    ∷ rate_means (255 ∷ 255 ∷ []) 0 0 8
-    ∷ rate_means (224 ∷ []) 0 0 8
-    ∷ rate_means (138 ∷ []) 0 0 8
-    ∷ []
-    ≡ refused 8 ∷ refused_with 9 1 ∷ refused 10 ∷ refused 11 ∷ refused 8 ∷ refused 19 ∷ []
-unfolding parse after_sign bits_that_count missing completed
-rate_refusals = refl

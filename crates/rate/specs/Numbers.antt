@@ -1,27 +1,25 @@
 -- Every f64 that a reading or a rate holds is a number, no NaN: it has one bit pattern, and a place that it is written to holds that pattern.
 -- Assumes nothing.
-use Rattle.std.specs.Prelude.{◌≡◌, refl, Bool, false, not, List, ℕ, ◌+◌, ◌^◌, ◌<◌, ◌≤◌, T, ltb, Float}
-use Rattle.std.proofs.Common.{sym, subst, arith, ltb-false}
+use Rattle.std.specs.Prelude.{◌≡◌, Bool, false, not, List, ℕ, T, Float}
+use Rattle.std.proofs.Common.{sym, subst}
 use Rattle.std.specs.Float.{binary64}
-use Rattle.std.specs.Float.Ieee.{div, is_nan, of_int}
+use Rattle.std.specs.Float.Ieee.{is_nan, of_int}
 use Rattle.ground.specs.Choice.{pick_elim}
-use Rattle.ground.specs.Paper.{Paper, accepted, refusal, refused, onward}
+use Rattle.ground.specs.Paper.{Paper, accepted, refusal, onward}
 use Rattle.code.specs.Meaning.{ShapeValues, number_read, shape_means}
-use Rattle.code.specs.Theorems.{read_fits}
-use Rattle.cadence.specs.Meaning.{length_of, seconds_means}
 use Rattle.rate.specs.declared.record.Rate.{Rate}
 use Rattle.rate.specs.declared.record.Reading.{Reading}
 use Rattle.rate.specs.declared.record.Reading.TheVariants.{Exact, Between}
-use Rattle.rate.specs.Meaning.{RateValues, ReadingValues, as_float, band, exact, negative, rate_means, rate_of, rate_values}
-use Rattle.rate.specs.Meaning.{reading_means, reading_of, shape_reads}
-use Rattle.rate.specs.Quotients.{no_nan, rounded}
+use Rattle.rate.specs.Meaning.{ReadingValues, as_float, band, exact, negative}
+use Rattle.rate.specs.Meaning.{reading_means, shape_reads}
+use Rattle.rate.specs.Quotients.{rounded}
 
 -- a number
 abbrev pub Number : Float → Type 0
 Number x = T (not (is_nan x))
 
 -- what is no NaN is a number
-number : (x : Float) → is_nan x ≡ false → Number x
+pub number : (x : Float) → is_nan x ≡ false → Number x
 number x e = subst (λ (b : Bool). T (not b)) (sym e) tt
 
 -- a count as f64 is a number
@@ -43,11 +41,6 @@ abbrev Reads : Paper ReadingValues → Type 0
 Reads (accepted v) = ReadingNumbers v.reading
 Reads (refusal n carried) = Unit {0}
 
--- whatever is formed
-abbrev Forms : Paper RateValues → Type 0
-Forms (accepted v) = RateNumbers v.rate
-Forms (refusal n carried) = Unit {0}
-
 module _ (bytes : List ℕ) (at d : ℕ) where
   reads : Reads (reading_means bytes at d)
   reads = go (shape_means bytes at d)
@@ -63,37 +56,3 @@ module _ (bytes : List ℕ) (at d : ℕ) where
   -- every reading that is answered
   pub reading_numbers : {v : ReadingValues} → reading_means bytes at d ≡ accepted v → ReadingNumbers v.reading
   reading_numbers e = subst Reads e reads
-
-  forms : (level : ℕ) → Forms (rate_means bytes at d level)
-  forms level = go (shape_means bytes at d) refl
-    where
-      -- a count over the level's seconds
-      quotient : (n : ℕ) → n < 2 ^ 32 → level ≤ 7 → Number (div binary64 (as_float n) (as_float (length_of level)))
-      quotient n h k = number _ (no_nan n level h k)
-
-      by_band : (m e : ℕ) → m + e < 2 ^ 32 → level ≤ 7 → RateNumbers (rate_of (reading_of m e) (length_of level))
-      by_band m e h k =
-          pick_elim (λ (r : Reading). RateNumbers (rate_of r (length_of level))) (exact e) (Exact (as_float m)) _
-          (λ f. (quotient m (omega arith) k, quotient m (omega arith) k, count_number (length_of level)))
-          (λ f. (quotient (band m e).low (omega arith) k, quotient (band m e).high h k, count_number (length_of level)))
-
-      by_level : (m e next : ℕ) → m + e < 2 ^ 32 → Forms (onward (rate_values (record { reading = reading_of m e; next = next })) (seconds_means level))
-      by_level m e next h =
-          pick_elim (λ (p : Paper ℕ). Forms (onward (rate_values (record { reading = reading_of m e; next = next })) p)) (ltb 7 level) (refused 19)
-          (accepted (length_of level))
-          (λ f. tt)
-          (λ f. by_band m e h (ltb-false 7 level f))
-
-      go : (p : Paper ShapeValues) → shape_means bytes at d ≡ p
-          → Forms (onward (λ (r : ReadingValues). onward (rate_values r) (seconds_means level)) (onward shape_reads p))
-      go (accepted v) e =
-          let f = read_fits bytes at d e in
-          pick_elim (λ (p : Paper ReadingValues). Forms (onward (λ (r : ReadingValues). onward (rate_values r) (seconds_means level)) p))
-          (negative (number_read v).value) (refused 8) (accepted (record { reading = reading_of v.magnitude v.error; next = v.next }))
-          (λ g. tt)
-          (λ g. by_level v.magnitude v.error v.next (omega (arith, f.in_rule_lem, f.error_few)))
-      go (refusal n carried) e = tt
-
-  -- every rate that is answered
-  pub rate_numbers : (level : ℕ) {v : RateValues} → rate_means bytes at d level ≡ accepted v → RateNumbers v.rate
-  rate_numbers level e = subst Forms e (forms level)
