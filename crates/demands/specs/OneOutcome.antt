@@ -7,11 +7,11 @@ pub use Rattle.crc.specs.OneOutcome.{checksum_one, sealed_one, seal_one}
 -- 16-bit words
 pub use Rattle.ground.specs.OneOutcome.{lies_one, word_one, put_one}
 -- packets
-pub use Rattle.packet.specs.OneOutcome.{find_one, header_one, payload_one, write_one as packet-write-one, found_number_one, headed_number_one}
-pub use Rattle.packet.specs.OneOutcome.{written_number_one as packet-written-number-one}
+pub use Rattle.packet.specs.OneOutcome.{find_one, header_one, payload_one, write_one as packet_write_one, found_number_one, headed_number_one}
+pub use Rattle.packet.specs.OneOutcome.{written_number_one as packet_written_number_one}
 -- messages
-pub use Rattle.message.specs.OneOutcome.{read_one as message-read-one, write_one as message-write-one, read_number_one}
-pub use Rattle.message.specs.OneOutcome.{written_number_one as message-written-number-one}
+pub use Rattle.message.specs.OneOutcome.{read_one as message_read_one, write_one as message_write_one, read_number_one}
+pub use Rattle.message.specs.OneOutcome.{written_number_one as message_written_number_one}
 -- packed codes: pack; shape; unpack, and a reader's next_code, read_at and read_moved; magnitude; sign; the small questions that both ask
 pub use Rattle.code.specs.OneOutcome.{pack_one, shape_one, unpack_one, magnitude_one, sign_one, packed_number_one, unpacked_number_one}
 -- so many bits of a number
@@ -40,9 +40,9 @@ pub use Rattle.window_ask.specs.OneOutcome.{ask_one, ask_number_one}
 -- packet asks
 pub use Rattle.packet_ask.specs.OneOutcome.{ask_packet_one, packet_number_one}
 -- the code program's lines
-pub use Rattle.lines.specs.OneOutcome.{fresh_one, with_byte_one, header_one as lines-header-one, put_answer_one, run_one}
+pub use Rattle.lines.specs.OneOutcome.{fresh_one, with_byte_one, header_one as lines_header_one, put_answer_one, run_one}
 -- what the code program prints with
-pub use Rattle.printing.specs.OneOutcome.{print_header_one as printing-header-one, print_piece_one as piece-one, print_last_one as last_one}
+pub use Rattle.printing.specs.OneOutcome.{print_header_one as printing_header_one, print_piece_one as piece_one, print_last_one as last_one}
 -- the C interface: packets and messages; the checksum has the promise above
 pub use Rattle.plavotesk.specs.OneOutcome.{plv_packet_find_one, plv_packet_header_one, plv_packet_payload_one, plv_packet_write_one}
 pub use Rattle.plavotesk.specs.OneOutcome.{plv_message_read_one, plv_message_write_one}

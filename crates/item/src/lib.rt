@@ -1,4 +1,6 @@
 // The items of a packet's table: the fields of an item's word, and the bits that its result is sent in.
+#![tactic(auto)]
+
 mod formats;
 
 ghost use Rattle.std.specs.Prelude.{◌≡◌, ◌<◌, ◌≤◌, ◌^◌};

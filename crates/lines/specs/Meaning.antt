@@ -1,6 +1,7 @@
 -- The code program's lines: document 01, "Cases", last paragraph, in its words and order.
 -- Assumes nothing.
-use Rattle.std.specs.Prelude.{Bool, true, false, ◌&&◌, List, [], ◌∷◌, ◌++◌, map, ℕ, zero, suc, ◌+◌, ◌-◌, ◌*◌, ◌/◌, ◌%◌, leb, ltb, eqb, ℤ, pos, neg_ℤ, nat_abs, length, drop}
+use Rattle.std.specs.Prelude.{Bool, true, false, ◌&&◌, List, [], ◌∷◌, ◌++◌, map, ℕ, zero, suc, ◌+◌, ◌-◌, ◌*◌, ◌/◌, ◌%◌, leb, ltb, eqb, ℤ}
+use Rattle.std.specs.Prelude.{pos, neg_ℤ, nat_abs, length, drop}
 use Rattle.ground.specs.Choice.{pick}
 use Rattle.code.specs.Meaning.{code_of, largest, sign_of}
 

@@ -1,7 +1,9 @@
 -- A line as its bytes come: what is known of it after each byte, and that this is enough to answer it.
 -- Assumes nothing.
-use Rattle.std.specs.Prelude.{◌≡◌, refl, Bool, true, false, not, ◌&&◌, List, [], ◌∷◌, ◌++◌, ℕ, suc, ◌+◌, ◌-◌, ◌*◌, ◌^◌, ◌<◌, ◌≤◌, leb, ltb, eqb, ℤ, pos, neg_ℤ, length}
-use Rattle.std.proofs.Common.{sym, ap, ap₂, ◌∙◌, subst, zero-le, pow-suc, zero-lt-suc, add-zero, zero-add, add-suc, suc-add, arith, leb-true, ltb-true, le-leb, lt-ltb, length-append}
+use Rattle.std.specs.Prelude.{◌≡◌, refl, Bool, true, false, not, ◌&&◌, List, [], ◌∷◌, ◌++◌, ℕ, suc, ◌+◌, ◌-◌, ◌*◌, ◌^◌, ◌<◌, ◌≤◌, leb, ltb}
+use Rattle.std.specs.Prelude.{eqb, ℤ, pos, neg_ℤ, length}
+use Rattle.std.proofs.Common.{sym, ap, ap₂, ◌∙◌, subst, zero-le, pow-suc, zero-lt-suc, add-zero, zero-add, add-suc, suc-add, arith}
+use Rattle.std.proofs.Common.{leb-true, ltb-true, le-leb, lt-ltb, length-append}
 use Rattle.std.proofs.Math.Nat.{pow-le-pow_right}
 use Rattle.std.proofs.Math.Dec.{eqb-suc-zero}
 use Rattle.ground.specs.Choice.{pick, pick_elim}

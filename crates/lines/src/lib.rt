@@ -1,4 +1,6 @@
 // The code program's lines, on bytes: taken apart as they come, in pieces of any length, and answered.
+#![tactic(auto)]
+
 mod answer;
 mod byte;
 mod text;
@@ -19,7 +21,7 @@ const HEADER: [u8; 18] = [
 
 // What is known of an unfinished line: whether it has any bytes, begins with a minus, how many digits it has and what they
 // mean, and whether it is any other line.
-#[derive(Drop)]
+#[derive(Clone, Copy)]
 pub struct Line {
     pub begun: bool,
     pub minus: bool,

@@ -1,14 +1,13 @@
 -- What the reader has in hand, test after test, as answers of the definition.
 -- Assumes nothing.
-use mathlib.Core.Path.{◌≡◌, ap, ap₂, ◌∙◌}
-use mathlib.Core.Bool.{Bool, true, false, not}
+use mathlib.Core.Path.{◌≡◌, sym, ap, ap₂, ◌∙◌}
+use mathlib.Core.Bool.{Bool, true, false}
 use mathlib.Core.List.{List}
 use Prim.Native.Nat.{ℕ, ◌+◌, ◌/◌, ◌%◌, ◌^◌, ◌<◌, ◌≤◌}
 use native.Mathlib.Omega.{arith}
 use borrow.Author.Tests.{lt-ltb, le-ltb, eq-eqb, ne_eqb}
 use lib.ListN.{length, take, drop, get_or}
 use Rattle.ground.specs.Paper.{accepted}
-use Rattle.ground.specs.Questions.{answered_no, answered_yes}
 use Rattle.ground.specs.Words.{number, word_at}
 use Rattle.ground.specs.Promise.{WordPromise}
 use Rattle.ground.specs.Laws.{word_there}
@@ -55,17 +54,17 @@ module _ {bytes : List ℕ} (room : 4 ≤ length bytes) where
 
       module _ (whole : size + 6 ≤ length bytes) {answer : Bool} (sum : SealedPromise bytes 0 (size + 4) answer) where
         -- a wrong checksum
-        pub wrong_checksum : not answer ≡ true → ReadPromise bytes R.WrongChecksum
+        pub wrong_checksum : answer ≡ false → ReadPromise bytes R.WrongChecksum
         unfolding read_means
         wrong_checksum e =
-            record { answer = rw (le-ltb (length bytes) 4 room, mark, ← size_is, le-ltb (length bytes) (size + 6) whole, answered_no sum.answer e) }
+            record { answer = rw (le-ltb (length bytes) 4 room, mark, ← size_is, le-ltb (length bytes) (size + 6) whole, sym sum.answer ∙ e) }
 
         -- a message
-        pub a_message : {value : ℕ} → not answer ≡ false → value ≡ number (take size (drop 4 bytes))
+        pub a_message : {value : ℕ} → answer ≡ true → value ≡ number (take size (drop 4 bytes))
             → ReadPromise bytes (R.Message (word % 2 ^ 14) (word / 2 ^ 14) value (size + 6))
         a_message e v =
             record {
               answer =
                   ap₂ (λ (w x : ℕ). accepted (record { address = w % 2 ^ 14; tag = w / 2 ^ 14; value = x; used = size + 6 })) word_is v
-                  ∙ read_so bytes size room mark size_is whole (answered_yes sum.answer e);
+                  ∙ read_so bytes size room mark size_is whole (sym sum.answer ∙ e);
             }

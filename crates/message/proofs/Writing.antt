@@ -1,14 +1,13 @@
 -- The buffer as the writer leaves it, step by step, is the message and what lay past it.
 -- Assumes nothing.
-use mathlib.Core.Path.{◌≡◌, refl, ap, ap₂, ◌∙◌}
-use mathlib.Core.Bool.{Bool, true, false, not}
+use mathlib.Core.Path.{◌≡◌, refl, sym, ap, ap₂, ◌∙◌}
+use mathlib.Core.Bool.{Bool, true, false}
 use mathlib.Core.List.{List, ◌++◌}
 use Prim.Native.Nat.{ℕ, ◌+◌, ◌<◌, ◌≤◌}
 use native.Mathlib.Nat.{add_comm}
 use native.Mathlib.Omega.{arith}
 use borrow.Author.Tests.{lt-ltb, le-ltb}
 use lib.ListN.{length, drop}
-use Rattle.ground.specs.Questions.{answered_no, answered_yes}
 use Rattle.ground.specs.Outcome.{accept}
 use Rattle.ground.specs.Words.{bytes_of, length-bytes_of}
 use Rattle.ground.specs.Putting.{put, put_next}
@@ -42,15 +41,15 @@ module _ (buffer : List ℕ) (address tag value size : ℕ) (is : size ≡ data_
 
 module _ {buffer : List ℕ} {address tag value : ℕ} {answer : Bool} (said : answer ≡ sayable address tag value) where
   -- an address, a tag or bits outside the rule
-  pub unsayable : not answer ≡ true → WritePromise buffer address tag value W.OutsideRule buffer
+  pub unsayable : answer ≡ false → WritePromise buffer address tag value W.OutsideRule buffer
   unfolding write_means
-  unsayable e = record { outcome = rw (answered_no said e) }
+  unsayable e = record { outcome = rw (sym said ∙ e) }
 
-  module _ (e : not answer ≡ false) {size : ℕ} (is : size ≡ data_size tag) where
+  module _ (e : answer ≡ true) {size : ℕ} (is : size ≡ data_size tag) where
     -- a buffer that is too short
     pub too_short : length buffer < size + 6 → WritePromise buffer address tag value W.BufferTooShort buffer
     unfolding write_means
-    too_short h = record { outcome = rw (answered_yes said e, ← is, lt-ltb (length buffer) (size + 6) h) }
+    too_short h = record { outcome = rw (sym said ∙ e, ← is, lt-ltb (length buffer) (size + 6) h) }
 
     -- mark, word, data and checksum, put one after the other
     pub done : {l₁ l₂ l₃ l₄ : List ℕ} → l₁ ≡ put buffer 0 (bytes_of 2 0x3C3D) → l₂ ≡ put l₁ 2 (bytes_of 2 (tag_word address tag))
@@ -59,6 +58,6 @@ module _ {buffer : List ℕ} {address tag value : ℕ} {answer : Bool} (said : a
     unfolding write_means
     done p q r h s =
         record {
-          outcome = rw (answered_yes said e, ← is, le-ltb (length buffer) (size + 6) h)
+          outcome = rw (sym said ∙ e, ← is, le-ltb (length buffer) (size + 6) h)
               (ap (accept (size + 6)) (whole buffer address tag value size is p q r h s));
         }

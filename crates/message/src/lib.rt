@@ -1,4 +1,6 @@
 // Command messages, read and written (document 01, "Packets and messages"; 000, 2.4.1).
+#![tactic(auto)]
+
 mod parts;
 
 ghost use Rattle.std.specs.Prelude.{◌≡◌};

@@ -1,4 +1,6 @@
 // Packed codes written: a number to bits, at any bit position of a lent buffer, with drop 0 or 3; and fields, so many bits of a number.
+#![tactic(auto)]
+
 mod write;
 
 ghost use Rattle.std.specs.Prelude.{pos};

@@ -1,5 +1,7 @@
 // Packets in a capture: found, taken apart, written (document 01, "Packets and messages"; 000, 3.1). A packet is a packet
 // when mark, length and checksum agree.
+#![tactic(auto)]
+
 mod parts;
 
 ghost use Rattle.std.specs.Prelude.{◌≡◌, ◌+◌};

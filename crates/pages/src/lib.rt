@@ -45,7 +45,7 @@ pub enum Checked {
 }
 
 // What is done to each word of a window: kept or set to 0; on trial looked at, marked, or a mark taken away, or a marked word set to 0.
-#[derive(Drop)]
+#[derive(Clone, Copy)]
 pub enum Pass {
     Keep,
     Clear,

@@ -1,12 +1,16 @@
 // What the code program hands to standard output: the header, the answers of the lines that end in a piece of the input, and
 // the answer of a last line. Each call has a room of its own, so that no lent memory is left open. Whether standard output took
 // the bytes is answered as the system says it: where it did not, nothing more is handed over, and the program stops.
+#![tactic(auto)]
+
 ghost use Rattle.std.specs.Prelude.{◌≡◌, ◌+◌, ◌≤◌, length};
 ghost use Rattle.lines.specs.Meaning.{enough};
 ghost use Rattle.printing.specs.Promise.{PrintHeaderPromise, PrintLastPromise, PrintPiecePromise, capped};
 
-use libc::STDOUT_FILENO;
 use lines::{Line, put_answer, put_header, run};
+
+// The number by which the system knows standard output.
+const STANDARD_OUTPUT: i32 = 1;
 
 // What was meant for standard output: how many bytes, and whether it took them all.
 #[derive(Drop)]
@@ -94,7 +98,7 @@ fn handed(so_far: bool, room: &[u8], count: usize) -> Output
     requires { count ≤ length room.now }
     ensures { result.put ≡ count }
 {
-    let written = so_far && io::write_all(STDOUT_FILENO, &room[..count]);
+    let written = so_far && io::write_all(STANDARD_OUTPUT, &room[..count]);
     Output {
         put: count,
         written,

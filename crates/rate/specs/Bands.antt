@@ -2,7 +2,8 @@
 -- Assumes nothing.
 use Rattle.std.specs.Prelude.{◌≡◌, true, ℕ, zero, suc, ◌+◌, ◌*◌, ◌-◌, ◌^◌, ◌<◌, ◌≤◌, ℤ, nat_abs}
 use Rattle.std.proofs.Common.{ap, ap₂, ◌∙◌, le_trans, pow-suc, arith, pow_pos, eq-eqb, eqb-true}
-use Rattle.code.specs.Meaning.{Shape, nought, small, led, shape_of_number, sign_of, magnitude, error, lowest, highest, left_out, filled, greatest_place, largest}
+use Rattle.code.specs.Meaning.{Shape, nought, small, led, shape_of_number, sign_of, magnitude, error, lowest, highest, left_out, filled}
+use Rattle.code.specs.Meaning.{greatest_place, largest}
 use Rattle.code.specs.Shapes.{Drop, none, three, below_led, Valid}
 use Rattle.code.specs.Magnitudes.{places, shape_bounds, number_valid, magnitude_fits, error_fits}
 use Rattle.rate.specs.Meaning.{Band, band, exact}

@@ -57,4 +57,5 @@ divides f (fin t m e) (fin u (suc n) d) a b p q h =
 pub no_nan : (n level : ℕ) → n < 2 ^ 32 → level ≤ 7 → is_nan (div binary64 (as_float n) (as_float (length_of level))) ≡ false
 no_nan n level h k =
     let l = lasts level k in
-    divides binary64 (as_float n) (as_float (length_of level)) n (length_of level) (same_value n h) (same_value (length_of level) (omega (arith, l.hour))) l.some
+    divides binary64 (as_float n) (as_float (length_of level)) n (length_of level) (same_value n h)
+    (same_value (length_of level) (omega (arith, l.hour))) l.some

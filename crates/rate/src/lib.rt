@@ -1,4 +1,6 @@
 // Readings and rates: a packed count is read as a band of counts, and a rate is formed from the band's edges.
+#![tactic(auto)]
+
 mod band;
 pub mod record;
 

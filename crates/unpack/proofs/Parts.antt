@@ -16,9 +16,10 @@ use Rattle.ground.specs.Questions.{both_ways}
 use Rattle.ground.specs.Paper.{Paper, accepted, refused, refused_with, mapped}
 use Rattle.code.specs.Meaning.{led, Parsed, found, ran_out, redundant_zero, run_too_long, ShapeValues, bits_that_count, from_bits, filled, signed}
 use Rattle.code.specs.Meaning.{left_out, width, ones_of}
-use Rattle.code.specs.Meaning.{field, small_found, led_then, after_run, after_sign, parse, bits, values_of, answer_of, answer_to, past_end, position_means, shape_means}
+use Rattle.code.specs.Meaning.{field, small_found, led_then, after_run, after_sign, parse, bits, values_of, answer_of, answer_to}
+use Rattle.code.specs.Meaning.{past_end, position_means, shape_means}
 use Rattle.code.specs.Meaning.{number_read, unpack_means, drop_known, greatest_place, largest, longest_run}
-use Rattle.code.specs.Shapes.{Drop, none, three, drop_of, drop_small, below_led, width_is, width_four, Exact, parse_exact, bits_some}
+use Rattle.code.specs.Shapes.{Drop, none, three, drop_of, below_led, width_is, width_four, Exact, parse_exact, bits_some}
 use Rattle.code.specs.BitLists.{all_bits, all_bits-drop}
 use Rattle.code.specs.Missing.{behind_run, missing_after_sign, missing_computed, missing_computed_lem, by_place}
 use Rattle.code.specs.Positions.{all_bits-bits_that_count}
@@ -260,7 +261,8 @@ module _ (l : List ℕ) (here end b : ℕ) (end_is : end ≡ length l) (inside :
         go false k n e = rw e
 
     -- a one that is not one too many goes on with it
-    pub run_goes_on : (b ≡ 0 → ⊥) → ones < longest_run greatest_place → sign_answer d end s ones (drop here l) ≡ sign_answer d end s (ones + 1) (drop (here + 1) l)
+    pub run_goes_on : (b ≡ 0 → ⊥) → ones < longest_run greatest_place
+        → sign_answer d end s ones (drop here l) ≡ sign_answer d end s (ones + 1) (drop (here + 1) l)
     run_goes_on h few =
         run_on true h (lt-ltb ones (longest_run greatest_place) few) ∙ ap (λ (n : ℕ). sign_answer d end s n (drop (here + 1) l)) (sym (add-one ones))
 

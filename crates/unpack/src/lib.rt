@@ -1,4 +1,6 @@
 // Packed codes read: bits to a shape and to a number, at any bit position of lent bytes, with drop 0 or 3.
+#![tactic(auto)]
+
 mod read;
 
 ghost use Rattle.std.specs.Prelude.{◌≡◌, ◌≤◌};

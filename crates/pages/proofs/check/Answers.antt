@@ -2,7 +2,7 @@
 -- Assumes nothing.
 use borrow.Author.Rules.{rules}
 use Rattle.pages.proofs.Taking.{checked14, checked16, checked_sound}
-use Rattle.ground.specs.Questions.{answered_no, answered_yes}
+use mathlib.Core.Path.{sym, ◌∙◌}
 use Rattle.pages.proofs.check.Goals as goal
 
 pub returns-then-memory-last_cell : goal.returns-then-memory-last_cell
@@ -14,10 +14,10 @@ pub returns-then-not-sound_rows : goal.returns-then-not-sound_rows
 returns-then-not-sound_rows c =
     let a = c.args in
     checked16 a.memory.now a.second a.window c.last_cell.ensures c.if-memory-last_cell.false
-    (answered_no c.sound_rows.ensures c.if-not-sound_rows.true)
+    (sym c.sound_rows.ensures ∙ c.if-not-sound_rows.true)
 
 pub returns : goal.returns
 returns c =
     let a = c.args in
     checked_sound a.memory.now a.second a.window c.last_cell.ensures c.if-memory-last_cell.false
-    (answered_yes c.sound_rows.ensures c.if-not-sound_rows.false)
+    (sym c.sound_rows.ensures ∙ c.if-not-sound_rows.false)

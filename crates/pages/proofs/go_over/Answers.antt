@@ -10,4 +10,4 @@ returns-then-words-last_cell c = over14 _ _ _ _ c.last_cell.ensures c.if-words-l
 pub returns : goal.returns
 returns c =
     let gone = c.walk_window in
-    gone_over _ _ _ _ c.last_cell.ensures c.if-words-last_cell.false c.flags_of-flags.ensures gone.ensures.0 gone.ensures.1
+    gone_over _ _ _ _ c.last_cell.ensures c.if-words-last_cell.false c.flags_of-flags.ensures gone.ensures.result_after gone.ensures.upper_bound

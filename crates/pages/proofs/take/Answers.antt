@@ -15,7 +15,7 @@ pub returns-in-Sound : goal.returns-in-Sound
 returns-in-Sound c =
     let a = c.args in
     walked a.memory.now a.second a.window _ _ (check_says _ _ _ c.check-checked.ensures c.in-Sound.is)
-    c.walk_window.ensures.0
+    c.walk_window.ensures.result_after
 
 pub returns-in-WrongCell : goal.returns-in-WrongCell
 returns-in-WrongCell c =

@@ -8,22 +8,17 @@ use Rattle.pages.proofs.Walking.{sound_step, row_within}
 use Rattle.pages.specs.Meaning.{rows_in, sound_of}
 use Rattle.pages.proofs.walk.sound_rows.Goals as goal
 
--- the call, at the loop's head
-abbrev called : tie.At-loop invariant-loop decreases-loop → tie.Start invariant-loop decreases-loop
-called c = c.before.before.before.before
-
 pub loop-row-init : goal.loop-row-init
 loop-row-init c = (omega arith, refl)
 
 pub sound_row-requires : goal.sound_row-requires
 sound_row-requires c =
-    let call = called at-loop in
-    rw c.row_start-start.ensures.0 (row_within call.args.window c.loop-row.row _ c.loop-row-test.true call.pre)
+    rw c.row_start-start.ensures.0 (row_within c.args.window c.loop-row.row _ c.loop-row-test.true c.requires)
 
 pub loop-row-preserved : goal.loop-row-preserved
 loop-row-preserved c =
     let loop = c.loop-row in
-    let a = (called at-start.before.before).args in (
+    let a = c.args in (
       omega arith,
       sound_step a.memory.now a.page a.window loop.row _ _ _ _ loop.invariant.1 c.row_start-start.ensures.0
           c.sound_row.ensures c.both-ok.ensures,
@@ -31,5 +26,5 @@ loop-row-preserved c =
 
 pub returns : goal.returns
 returns c =
-    let e : c.loop-row.row ≡ (called c.before).args.window.ysize + 1 = omega arith in
+    let e : c.loop-row.row ≡ c.args.window.ysize + 1 = omega arith in
     rw (← e) c.loop-row.invariant.1

@@ -10,11 +10,12 @@ use Rattle.pages.proofs.walk.visit.Goals as goal
 
 pub returns : goal.returns
 returns c =
-    let a = c.args in (
-      (
+    let a = c.args in
+    record {
+      value = (
         c.either-amount.ensures.0 ∙ ap (λ (x : ℕ). pick a.trial x (get_or a.memory.now a.at 0)) c.unless_marked.ensures.0
             ∙ value_by a.trial a.clear a.settle _,
         c.either-amount.ensures.1,
-      ),
-      ap (set a.memory.now a.at) (c.left.ensures ∙ left_by_lem a.trial a.clear a.settle _),
-    )
+      );
+      memory_after = ap (set a.memory.now a.at) (c.left.ensures ∙ left_by_lem a.trial a.clear a.settle _);
+    }

@@ -15,7 +15,7 @@ pub loop-column-init : goal.loop-column-init
 loop-column-init c = (search rules, refl, refl, omega arith)
 
 pub overflow_add-total : goal.overflow_add-total
-overflow_add-total c = omega (arith, c.visit-total.ensures.0.1)
+overflow_add-total c = omega (arith, c.visit-total.ensures.value.1)
 
 pub loop-column-preserved : goal.loop-column-preserved
 loop-column-preserved c =
@@ -23,10 +23,10 @@ loop-column-preserved c =
     let loop = c.loop-column in
     let a = c.args in (
       omega arith,
-      visit.auto.0 ∙ loop.invariant.1,
+      visit.auto.memory ∙ loop.invariant.1,
       pass_cell (pass_by a.trial a.clear a.settle) _ a.page (walk_at a.memory.now a.sum) loop.memory loop.total a.start
-          loop.column _ _ _ loop.invariant.2 loop.invariant.1 c.place-at.ensures.0 visit.ensures.0.0 visit.ensures.1,
-      omega (arith, visit.ensures.0.1),
+          loop.column _ _ _ loop.invariant.2 loop.invariant.1 c.place-at.ensures.0 visit.ensures.value.0 visit.ensures.memory_after,
+      omega (arith, visit.ensures.value.1),
     )
 
 pub shape_of-memory : goal.shape_of-memory
@@ -36,4 +36,4 @@ pub returns : goal.returns
 returns c =
     let loop = c.loop-column in
     let e : loop.column ≡ c.args.width = omega arith in
-    rw (← e) (loop.invariant.2, loop.invariant.3)
+    rw (← e) (record { result_after = loop.invariant.2; upper_bound = loop.invariant.3 })

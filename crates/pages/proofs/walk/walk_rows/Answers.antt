@@ -11,18 +11,13 @@ use Rattle.pages.specs.Flags.{pass_by}
 use Rattle.pages.specs.Passes.{pass_of}
 use Rattle.pages.proofs.walk.walk_rows.Goals as goal
 
--- the call, at the loop's head
-abbrev called : tie.At-loop invariant-loop decreases-loop → tie.Start invariant-loop decreases-loop
-called c = c.before.before.before.before
-
 pub loop-row-init : goal.loop-row-init
 loop-row-init c = (omega arith, refl, refl, omega arith)
 
 pub walk_row-sum-requires : goal.walk_row-sum-requires
 walk_row-sum-requires c =
-    let call = called at-loop in
-    let inside : c.loop-row.row < call.args.window.ysize + 1 = omega arith in (
-      rw (c.row_start-start.ensures.0, c.loop-row.invariant.1) (row_within call.args.window c.loop-row.row _ inside call.pre),
+    let inside : c.loop-row.row < c.args.window.ysize + 1 = omega arith in (
+      rw (c.row_start-start.ensures.0, c.loop-row.invariant.1) (row_within c.args.window c.loop-row.row _ inside c.requires),
       omega arith,
       omega arith,
     )
@@ -31,12 +26,12 @@ pub loop-row-preserved : goal.loop-row-preserved
 loop-row-preserved c =
     let walked = c.walk_row-sum in
     let loop = c.loop-row in
-    let a = (called at-start.before.before).args in (
+    let a = c.args in (
       omega arith,
-      walked.auto.0 ∙ loop.invariant.1,
+      walked.auto.memory ∙ loop.invariant.1,
       pass_step (pass_by a.trial a.clear a.settle) _ a.page (walk_at a.memory.now 0) a.window loop.memory loop.sum loop.row
-          _ _ _ loop.invariant.2 loop.invariant.1 c.row_start-start.ensures.0 walked.ensures.0,
-      omega (arith, walked.ensures.1),
+          _ _ _ loop.invariant.2 loop.invariant.1 c.row_start-start.ensures.0 walked.ensures.result_after,
+      omega (arith, walked.ensures.upper_bound),
     )
 
 pub shape_of-memory : goal.shape_of-memory
@@ -44,5 +39,5 @@ shape_of-memory c = c.loop-row.invariant.1
 
 pub returns : goal.returns
 returns c =
-    let e : c.loop-row.row ≡ (called c.before).args.window.ysize + 1 = omega arith in
-    (rw (← e) c.loop-row.invariant.2, omega arith)
+    let e : c.loop-row.row ≡ c.args.window.ysize + 1 = omega arith in
+    record { result_after = rw (← e) c.loop-row.invariant.2; upper_bound = omega arith }

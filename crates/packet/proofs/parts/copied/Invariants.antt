@@ -1,0 +1,12 @@
+-- `packet::copied` meets its contract. The loop's invariant: the bytes passed are copied.
+-- Assumes nothing.
+use Prim.Native.Nat.{◌-◌}
+use lib.ListN.{length}
+use Rattle.ground.specs.Putting.{Copied}
+use Rattle.packet.proofs.parts.copied.Given as goal
+
+abbrev pub invariant-loop-i : goal.invariant-loop-i
+invariant-loop-i l = Copied l.initial.part 0 l.payload l.part l.i
+
+abbrev pub decreases-loop-i : goal.decreases-loop-i
+decreases-loop-i l = length l.payload - l.i
