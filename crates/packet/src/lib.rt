@@ -14,7 +14,7 @@ use parts::{copied, data_length, put_header, stands_at};
 
 // What finding answers: the first packet's place and the bytes skipped before it; no packet, with the bytes skipped; a
 // capture of more than 65,536 bytes.
-#[derive(Drop)]
+#[derive(Clone, Copy)]
 pub enum Found {
     At { place: usize, skipped: usize },
     Nothing { skipped: usize },

@@ -14,7 +14,7 @@ use kept::{bytes_again, keep_packet, packet_turn};
 use state::{SECOND, Turn, fitting};
 
 // What a packet ask answers: the bytes written and the total of its clearing items' own sums, new or again, or why not.
-#[derive(Drop)]
+#[derive(Clone, Copy)]
 pub enum PacketAnswer {
     New { written: u64, total: u64 },
     Again { written: u64, total: u64 },

@@ -13,7 +13,7 @@ use state::{
 };
 
 // What an ask answers: its sum, new or again, or why not.
-#[derive(Drop)]
+#[derive(Clone, Copy)]
 pub enum AskAnswer {
     New { sum: u64 },
     Again { sum: u64 },
