@@ -1,4 +1,6 @@
 // The reader of packed codes: lent bytes and a bit position, asked code by code.
+#![tactic(auto)]
+
 ghost use Rattle.code.specs.Promise.{UnpackPromise};
 ghost use Rattle.reader.specs.Promise.{ReaderPromise};
 
