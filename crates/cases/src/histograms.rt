@@ -1,8 +1,8 @@
 // Histogram memory: document 01's case, and a memory's last counter at the smallest and the largest N.
 ghost use Rattle.std.specs.Prelude.{◌≡◌, length};
 
+use crate::STANDARD_OUTPUT;
 use histogram::STATE_WORDS;
-use libc::STDOUT_FILENO;
 use window_ask::{AskAnswer, Window};
 
 // All the lines of histogram memory.
@@ -149,10 +149,10 @@ fn refused(number: u8) {
 
 // A word of a line.
 fn word(text: &[u8]) {
-    io::write_all(STDOUT_FILENO, text);
+    io::write_all(STANDARD_OUTPUT, text);
 }
 
 // A number of a line, in decimal.
 fn decimal(n: u64) {
-    io::print_decimal(STDOUT_FILENO, n);
+    io::print_decimal(STANDARD_OUTPUT, n);
 }

@@ -1,7 +1,8 @@
 // Document 01's cases and published values, run through the public calls, a line each.
 mod histograms;
 
-use libc::STDOUT_FILENO;
+// The number of standard output.
+pub(crate) const STANDARD_OUTPUT: i32 = 1;
 
 fn main() {
     checksums();
@@ -20,7 +21,7 @@ fn checksums() {
 }
 
 fn checksum(bytes: &[u8]) {
-    io::write_all(STDOUT_FILENO, b"checksum ");
-    io::print_hex(STDOUT_FILENO, crc::checksum(bytes) as u64, 4);
-    io::write_all(STDOUT_FILENO, b"\n");
+    io::write_all(STANDARD_OUTPUT, b"checksum ");
+    io::print_hex(STANDARD_OUTPUT, crc::checksum(bytes) as u64, 4);
+    io::write_all(STANDARD_OUTPUT, b"\n");
 }

@@ -1,9 +1,12 @@
 // What the exported calls do not reach, run on stored records: the reader of packed codes. A record is what is asked for, a drop,
 // how many bytes it has, a bit position in eight bytes, and those bytes. What must be printed comes from tests/reference.
+#![tactic(auto)]
+
 mod codes;
 mod say;
 
-use libc::STDIN_FILENO;
+// The number of the file that the records are read from.
+const STANDARD_INPUT: i32 = 0;
 
 fn main() {
     let mut room = io::buffer();
@@ -21,14 +24,14 @@ fn serve(room: &mut [u8]) {
 // Answers one record, and whether there was one.
 fn one(room: &mut [u8]) -> bool {
     let mut head = [0u8; 11];
-    if io::read_full(STDIN_FILENO, &mut head) < 11 {
+    if io::read_full(STANDARD_INPUT, &mut head) < 11 {
         return false;
     }
     let size = wide(head[2]) as usize;
     if room.len() < size {
         return false;
     }
-    if io::read_full(STDIN_FILENO, &mut room[..size]) < size {
+    if io::read_full(STANDARD_INPUT, &mut room[..size]) < size {
         return false;
     }
     answer(&head, &room[..size]);

@@ -1,0 +1,11 @@
+-- `vectors::serve` is safe and ends: the measure is the number of turns that are left.
+-- Assumes nothing.
+use mathlib.Core.Path.{◌≡◌}
+use lib.ListN.{length}
+use Rattle.vectors.proofs.serve.Given as goal
+
+abbrev pub invariant-loop-turns : goal.invariant-loop-turns
+invariant-loop-turns l = length l.room ≡ length l.initial.room
+
+abbrev pub decreases-loop-turns : goal.decreases-loop-turns
+decreases-loop-turns l = l.turns
