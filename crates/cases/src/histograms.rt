@@ -16,7 +16,14 @@ pub fn run() {
 fn largest() -> [u32; 524288]
     ensures { 524288 ≡ length result }
 {
-    [0; 524288]
+    zeros()
+}
+
+// So many words, each 0.
+fn zeros<const N: usize>() -> [u32; N]
+    ensures { N ≡ length result }
+{
+    [0; N]
 }
 
 // Each case in turn.

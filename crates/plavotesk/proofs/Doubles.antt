@@ -4,8 +4,7 @@ use mathlib.Core.Path.{◌≡◌, sym, ap, ap₂, subst, ◌∙◌}
 use mathlib.Core.List.{List}
 use Prim.Native.Nat.{ℕ}
 use Rattle.rate.specs.Answers.{rate_paper, reading_paper}
-use Rattle.rate.proofs.Rates.{rate_numbers}
-use Rattle.rate.specs.Numbers.{RateNumbers, ReadingNumbers, reading_numbers}
+use Rattle.rate.specs.Numbers.{RateNumbers, ReadingNumbers, rate_numbers, reading_numbers}
 use Rattle.rate.specs.Promise.{RatePromise, ReadingPromise}
 use Rattle.rate.specs.declared.RateAnswer.{RateAnswer}
 use Rattle.rate.specs.declared.RateAnswer.TheVariants.{Formed}
