@@ -1,4 +1,6 @@
 // The one-hour cadence: how long each level lasts, and which level begins and which ends in a second of the hour.
+#![tactic(auto)]
+
 ghost use Rattle.std.specs.Prelude.{◌≡◌};
 ghost use Rattle.ground.specs.Paper.{number_of};
 ghost use Rattle.cadence.specs.Meaning.{Highest};

@@ -1,4 +1,6 @@
 // Document 01's cases and published values, run through the public calls, a line each.
+#![tactic(auto)]
+
 mod histograms;
 
 // The number of standard output.

@@ -363,7 +363,8 @@ module _ (top d : ℕ) (dr : Drop d) (places : 8 ≤ top) (read : List ℕ) (ok 
   pub missing_is_least : Least (Completion (parse top d) read) (missing top d read)
   unfolding missing
   missing_is_least =
-      let some : completed top d read (missing_computed d read) ≡ true = so (missing_computed d read) (computed_completes top d dr places read ok ran_out_lem) in
+      let some : completed top d read (missing_computed d read) ≡ true
+      = so (missing_computed d read) (computed_completes top d dr places read ok ran_out_lem) in
       let found_least = least_is (completed top d read) (longest_code top) 0 (missing_computed d read) (λ j p. omega arith)
       (omega (arith, computed_few top d dr places read ran_out_lem)) some in
       record {
@@ -395,7 +396,8 @@ module _ (bytes : List ℕ) (at d : ℕ) (known : drop_known d ≡ true) where
       by_place false (not_past (length (bits_that_count bytes)) at h k)
       ∙ ap (answer_of greatest_place d at read) out
       ∙ ap (λ (n : ℕ). refused_with 9 n)
-      (missing_computed_lem greatest_place d (drop_of d known) (omega arith) read (all_bits-drop at (bits_that_count bytes) (all_bits-bits_that_count bytes)) out)
+      (missing_computed_lem greatest_place d (drop_of d known) (omega arith) read
+      (all_bits-drop at (bits_that_count bytes) (all_bits-bits_that_count bytes)) out)
 
   -- "at the end exactly, under 2^63, it carries 1"
   pub at_the_end : at ≡ length (bits_that_count bytes) → at < 2 ^ 63 → shape_means bytes at d ≡ refused_with 9 1

@@ -1,6 +1,7 @@
 -- Request 2026-06: "Codes already on file keep their bits and meaning", and what is new about the others.
 -- Assumes nothing.
-use Rattle.std.specs.Prelude.{◌≡◌, Bool, true, false, ◌&&◌, ◌⊎◌, ℕ, zero, suc, ◌+◌, ◌*◌, ◌-◌, ◌%◌, ◌/◌, ◌^◌, ◌<◌, ◌≤◌, ℤ, nat_abs, length, drop, replicate, ltb, leb}
+use Rattle.std.specs.Prelude.{◌≡◌, Bool, true, false, ◌&&◌, ◌⊎◌, ℕ, zero, suc, ◌+◌, ◌*◌, ◌-◌, ◌%◌, ◌/◌, ◌^◌, ◌<◌, ◌≤◌, ℤ, nat_abs, length, drop, replicate}
+use Rattle.std.specs.Prelude.{ltb, leb}
 use Rattle.std.proofs.Math.Path.{refl}
 use Rattle.std.proofs.Common.{sym, ap, ap₂, ◌∙◌, inl, ⊎_elim, arith}
 use mathlib.Core.List.{List, [], ◌∷◌, ◌++◌}
@@ -171,7 +172,8 @@ pub record NewCode (d : ℕ) (v : ℤ) : Type 0 where
   pub many : length (code_of d v) ≡ 29 - d
 
 -- the leading one of a number above the old limit stands at the greatest place
-new_shape : (d : ℕ) (v : ℤ) → least_coded d ≤ 4 → old_largest < nat_abs v → nat_abs v ≤ largest → shape_of_number d v ≡ led_of d (sign_of v) greatest_place (nat_abs v)
+new_shape : (d : ℕ) (v : ℤ) → least_coded d ≤ 4 → old_largest < nat_abs v → nat_abs v ≤ largest
+    → shape_of_number d v ≡ led_of d (sign_of v) greatest_place (nat_abs v)
 unfolding shape_of
 new_shape d v few over fits =
     let m : ℕ = nat_abs v in
@@ -188,7 +190,8 @@ new_codes d v three over fits =
     record { bits_are = e; many = ap length e }
 
 -- "The old reader refuses those by 11", whatever follows them
-pub new_too_long : (d : ℕ) (v : ℤ) (rest : List ℕ) → Drop d → old_largest < nat_abs v → nat_abs v ≤ largest → parse old_place d (code_of d v ++ rest) ≡ run_too_long
+pub new_too_long : (d : ℕ) (v : ℤ) (rest : List ℕ) → Drop d → old_largest < nat_abs v → nat_abs v ≤ largest
+    → parse old_place d (code_of d v ++ rest) ≡ run_too_long
 unfolding parse after_sign
 new_too_long d v rest dr over fits = ap (λ (l : List ℕ). parse old_place d (l ++ rest)) (new_codes d v dr over fits).bits_are
 

@@ -2,7 +2,8 @@
 -- Assumes nothing.
 use Rattle.std.specs.Prelude.{◌≡◌, Bool, true, false, ◌&&◌, List, [], ◌∷◌, ◌++◌, length, take, drop, replicate, ltb, leb, eqb}
 use Rattle.std.proofs.Math.Path.{refl, sym, ap}
-use Rattle.std.proofs.Common.{ap₂, ◌∙◌, subst, append_assoc, suc-add, add-suc, add-zero, zero-add, mod-eq_of_lt, arith, length-append, take-append-drop, take_at, drop_at, length-take-le, lt-ltb, le-ltb, le-leb, ltb-false, leb-true, eq-eqb, ne_eqb, eqb-true}
+use Rattle.std.proofs.Common.{ap₂, ◌∙◌, subst, append_assoc, suc-add, add-suc, add-zero, zero-add, mod-eq_of_lt, arith, length-append, take-append-drop}
+use Rattle.std.proofs.Common.{take_at, drop_at, length-take-le, lt-ltb, le-ltb, le-leb, ltb-false, leb-true, eq-eqb, ne_eqb, eqb-true}
 use Prim.Native.Nat.{ℕ, zero, suc, ◌+◌, ◌*◌, ◌-◌, ◌/◌, ◌%◌, ◌^◌, ◌<◌, ◌≤◌}
 use Rattle.std.proofs.lemmas.List.{length-replicate}
 use Rattle.std.proofs.lemmas.Bool.{eqb-false}

@@ -1,7 +1,9 @@
 -- What packing and unpacking do together: the same bits again, the same number again, a run of codes, and the ends of the range.
 -- Assumes nothing.
-use Rattle.std.specs.Prelude.{◌≡◌, refl, Bool, true, false, ◌&&◌, List, [], ◌∷◌, ◌++◌, map, ℕ, zero, suc, ◌+◌, ◌-◌, ◌/◌, ◌%◌, ◌^◌, ◌<◌, ◌≤◌, ℤ, nat_abs, length, take, drop, replicate, leb, ltb, eqb}
-use Rattle.std.proofs.Common.{sym, ap, ap₂, ◌∙◌, subst, append_assoc, arith, length-append, length-take, length-drop, take-append-drop, take-take, take_at, drop_at, length-take-le, le-leb, leb-true, le-ltb}
+use Rattle.std.specs.Prelude.{◌≡◌, refl, Bool, true, ◌&&◌, List, [], ◌∷◌, ◌++◌, map, ℕ, zero, suc, ◌+◌, ◌-◌, ◌/◌, ◌%◌, ◌^◌, ◌<◌, ◌≤◌, ℤ, nat_abs}
+use Rattle.std.specs.Prelude.{length, take, drop, replicate, leb, eqb}
+use Rattle.std.proofs.Common.{sym, ap, ap₂, ◌∙◌, subst, append_assoc, arith, length-append, length-take, length-drop, take-append-drop, take-take, take_at}
+use Rattle.std.proofs.Common.{drop_at, length-take-le, le-leb, leb-true}
 use Rattle.std.proofs.lemmas.List.{length-replicate}
 use Rattle.ground.specs.Choice.{pick, pick_elim}
 use Rattle.ground.specs.Questions.{both_hold}
@@ -10,7 +12,7 @@ use Rattle.ground.specs.Outcome.{Outcome, accept, refuse, Stays}
 use Rattle.ground.specs.Bits.{to_bits, bits_of}
 use Rattle.ground.specs.Putting.{length-put}
 use Rattle.code.specs.Meaning.{Shape, nought, small, led, Parsed, found, ran_out, redundant_zero, run_too_long, ShapeValues, UnpackValues, values_of}
-use Rattle.code.specs.Meaning.{bits, value, sign, magnitude, error, width, with_parity, ones_of, shape_of_number, code_of, decoded, bits_that_count, parse}
+use Rattle.code.specs.Meaning.{bits, value, width, with_parity, ones_of, shape_of_number, code_of, decoded, bits_that_count, parse}
 use Rattle.code.specs.Meaning.{past_end, answer_to}
 use Rattle.code.specs.Meaning.{greatest_place, largest, answer_of, position_means, shape_means, number_read, unpack_means, in_rule, pack_means, place_means}
 use Rattle.code.specs.Meaning.{fits_at, put_at, padded, to_byte_end, bytes_with, drop_known}
@@ -150,7 +152,8 @@ padded_room : (buffer : List ℕ) (at : ℕ) (code : List ℕ) → at + length c
     → at + length (padded at code) ≤ length (bits_of buffer)
 padded_room buffer at code h =
     let long : length (padded at code) ≡ length code + to_byte_end (at + length code)
-    = length-append code (replicate (to_byte_end (at + length code)) 0) ∙ ap (λ (n : ℕ). length code + n) (length-replicate (to_byte_end (at + length code)) 0) in
+    = length-append code (replicate (to_byte_end (at + length code)) 0)
+    ∙ ap (λ (n : ℕ). length code + n) (length-replicate (to_byte_end (at + length code)) 0) in
     omega (arith, length-bits_that_count buffer, length-bits_of buffer)
 
 -- zeros are bits

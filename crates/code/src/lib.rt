@@ -1,4 +1,6 @@
 // Packed codes: the answers of writing and reading them, and the small questions that both ask; `pack` writes, `unpack` reads.
+#![tactic(auto)]
+
 ghost use Rattle.std.specs.Prelude.{◌≡◌, ◌&&◌, leb, nat_abs, length};
 ghost use Rattle.ground.specs.Paper.{number_of};
 ghost use Rattle.code.specs.Meaning.{bits_that_count, drop_known, largest};

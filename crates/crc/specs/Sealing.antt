@@ -1,7 +1,8 @@
 -- What callers cite of a sealed run: bytes with their checksum behind them, as they are written and as they are read.
 -- Assumes nothing.
 use Rattle.std.specs.Prelude.{◌≡◌, refl, true, List, ◌++◌, ℕ, ◌+◌, ◌≤◌, length, take, drop}
-use Rattle.std.proofs.Common.{sym, ap, ap₂, ◌∙◌, append_assoc, arith, le-leb, eq-eqb, leb-true, eqb-true, length-append, length-drop, take_at, drop_at, drop-drop}
+use Rattle.std.proofs.Common.{sym, ap, ap₂, ◌∙◌, append_assoc, arith, le-leb, eq-eqb, leb-true, eqb-true, length-append, length-drop, take_at, drop_at}
+use Rattle.std.proofs.Common.{drop-drop}
 use Rattle.ground.specs.Questions.{both_hold}
 use Rattle.ground.specs.Words.{number, bytes_of, word_at, number-bytes_of}
 use Rattle.ground.specs.Meaning.{lies}

@@ -9,8 +9,7 @@ use native.Mathlib.Numerals.{add-one}
 use native.Mathlib.Omega.{arith}
 use lib.ListN.{length, get_or, take, drop, drop_of_length-le}
 use lib.Seq.{drop-cons, take_all, take-suc}
-use Rattle.ground.specs.Choice.{pick}
-use Rattle.ground.specs.Outcome.{Outcome, accept, outcome_of}
+use Rattle.ground.specs.Outcome.{Outcome, outcome_of}
 use Rattle.ground.specs.Paper.{Paper, accepted, refusal, accepted_same, refused_not}
 use Rattle.ground.specs.Questions.{answered_no, answered_yes, both_ways}
 use Rattle.cadence.specs.Answers.{level_paper}
@@ -118,7 +117,8 @@ settle_more f n page m₀ m after table i w h l e k g =
     rw (add-one, take-suc table i 0 h, cleared-append, append-nil, touch-append, ← e, ← k, ← l) g
 
 -- all items settled
-pub settled_all_lem : (pass : Pass) (page : Bool) (m after table : List ℕ) → after ≡ touch (left_of pass) (length m) page m (cleared_of (take (length table) table))
+pub settled_all_lem : (pass : Pass) (page : Bool) (m after table : List ℕ)
+    → after ≡ touch (left_of pass) (length m) page m (cleared_of (take (length table) table))
     → after ≡ touch (left_of pass) (length m) page m (cleared_of table)
 settled_all_lem pass page m after table e =
     e ∙ ap (λ (xs : List ℕ). touch (left_of pass) (length m) page m (cleared_of xs)) (take_all (length table) table (le_refl (length table)))

@@ -32,10 +32,10 @@ use Rattle.pages.specs.declared.Pass.{Pass}
 use Rattle.pages.specs.declared.Window.{Window}
 use Rattle.data_packet.specs.Answers.{built_paper, refusal_of}
 use Rattle.data_packet.specs.Marks.{touch}
-use Rattle.data_packet.specs.Meaning.{MemoryAndBuffer, PacketValues, Run, apid_of, first_run, memory_and_buffer, run_items, sending}
-use Rattle.data_packet.specs.Running.{Fair, Inside, Tried, cleared_of, ends_by_12, ends_by_check, ends_well, fair_of, settled_back, settled_zero, takable}
+use Rattle.data_packet.specs.Meaning.{Run, apid_of, first_run, memory_and_buffer, run_items, sending}
+use Rattle.data_packet.specs.Running.{Fair, Inside, cleared_of, ends_by_12, ends_by_check, ends_well, settled_back, settled_zero, takable}
 use Rattle.data_packet.specs.Running.{tried_all, cleared_all, with_memory, yes}
-use Rattle.data_packet.specs.Steps.{AssemblePromise, FinishPromise, LeadingPromise, Traced, TrialPromise, assembling, finishing, most_data, settled_all}
+use Rattle.data_packet.specs.Steps.{AssemblePromise, FinishPromise, LeadingPromise, TrialPromise, finishing, most_data, settled_all}
 use Rattle.data_packet.specs.declared.Built.{Built}
 use Rattle.data_packet.specs.declared.Found.{Found}
 

@@ -10,7 +10,7 @@ use lib.ListN.{length, length-append, get_or, take}
 use lib.Seq.{length-take-le, take-suc}
 use Rattle.ground.specs.Bits.{bits_of}
 use Rattle.ground.specs.Choice.{pick, pick_elim}
-use Rattle.ground.specs.Paper.{Paper, accepted, refusal, paper_elim}
+use Rattle.ground.specs.Paper.{Paper, paper_elim}
 use Rattle.code.specs.BitLists.{length-bits_of}
 use Rattle.item.specs.Answers.{sent_paper}
 use Rattle.item.specs.Bits.{bits_few}

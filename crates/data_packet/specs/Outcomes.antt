@@ -1,13 +1,12 @@
 -- What building may answer and leave: to show something of every outcome, show it of the accepted one and of a refusal by any number but 0.
 -- Assumes nothing.
-use Rattle.std.specs.Prelude.{Bool, false, List, ◌++◌, ◌≡◌, refl, leb, length, drop}
+use Rattle.std.specs.Prelude.{Bool, false, List, ◌≡◌, refl, leb, length, drop}
 use Prim.Native.Nat.{ℕ, ◌+◌, ◌≤◌, ◌<◌}
 use Rattle.std.proofs.Common.{arith, leb-true}
 use Rattle.ground.specs.Choice.{pick_elim}
 use Rattle.ground.specs.Outcome.{Outcome, Stays, accept, onward_to, refuse}
 use Rattle.ground.specs.Paper.{Paper, accepted, refused}
 use Rattle.item.specs.Inputs.{Inputs}
-use Rattle.packet.specs.Meaning.{packet_of}
 use Rattle.packet.specs.ReadBack.{write_elim, written}
 use Rattle.data_packet.specs.Meaning.{MemoryAndBuffer, PacketValues, Run, allowed_from, apid_of, build_means, data_of, first_run, in_range, inputs_means}
 use Rattle.data_packet.specs.Meaning.{memory_and_buffer, most_items, packing, run_items, sending}

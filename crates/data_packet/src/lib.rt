@@ -1,4 +1,6 @@
 // The board's data packet: a table of items run over a page in order, and the packet built of what they send.
+#![tactic(auto)]
+
 mod settle;
 mod table;
 mod trial;

@@ -42,7 +42,8 @@ pub packet_nothing_twice : (memory state : List ℕ) (earlier later : List Call)
     → (packet_means (run (opening memory state) earlier).memory (run (opening memory state) earlier).state buffer number i).answer ≡ accepted (new_packet v)
     → NoNew (step (run (opening memory state) earlier) (ask_packet number i buffer)) later
     → (room : List ℕ) → v.written ≤ length room
-    → packet_means (after_packet memory state earlier number i buffer later).memory (after_packet memory state earlier number i buffer later).state room number i
+    → packet_means (after_packet memory state earlier number i buffer later).memory (after_packet memory state earlier number i buffer later).state room
+    number i
     ≡ accept (packet_again v)
     (packet_lent (after_packet memory state earlier number i buffer later).memory (after_packet memory state earlier number i buffer later).state
     (put room 0

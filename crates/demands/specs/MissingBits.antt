@@ -1,8 +1,8 @@
 -- Request 2026-02: "Everything that reads codes hands this number on unchanged". For any two outcomes, of reading the shape and of a call that reads codes:
 -- where the one ran out with a number of bits missing, so did the other, with the same number.
 -- Assumes nothing.
-use Rattle.std.specs.Prelude.{◌≡◌, refl, List, [], ◌∷◌, ℕ, ltb, get_or}
-use Rattle.std.proofs.Common.{sym, ap, ap₂, subst, ◌∙◌, arith}
+use Rattle.std.specs.Prelude.{◌≡◌, refl, List, ℕ, ltb, get_or}
+use Rattle.std.proofs.Common.{sym, ap, subst, ◌∙◌, arith}
 use Rattle.std.specs.Borrow.{Bor}
 use Rattle.ground.specs.Choice.{pick_elim}
 use Rattle.ground.specs.Paper.{Paper, accepted, refusal, refused, refused_with, number_of, onward, handed_on}

@@ -1,8 +1,8 @@
 -- 2026-07, "Build the board's data packet": what a packet ask wrote is found, read and checked by the packet calls, and holds what its items sent.
 -- Assumes nothing.
-use Rattle.std.specs.Prelude.{not, List, ◌++◌, ◌≡◌, refl, ℕ, ◌+◌, ◌^◌, ◌≤◌, ◌<◌, length, drop, take}
-use Rattle.std.proofs.Common.{sym, ap, subst, ◌∙◌, arith}
-use Rattle.ground.specs.Paper.{Paper, accepted, accepted_same, refused_not}
+use Rattle.std.specs.Prelude.{not, List, ◌≡◌, refl, ℕ, ◌+◌, ◌≤◌, ◌<◌, length, drop}
+use Rattle.std.proofs.Common.{subst, arith}
+use Rattle.ground.specs.Paper.{accepted, refused_not}
 use Rattle.data_packet.specs.Meaning.{PacketValues, Run, apid_of, data_of, first_run, run_items}
 use Rattle.data_packet.specs.Sizes.{run_sized}
 use Rattle.item.specs.Inputs.{Inputs}

@@ -367,7 +367,8 @@ pub session_packet_repeats : (o : Left) (number : ℕ) (i : Inputs) (buffer : Li
     → Meets o.memory o.state (packeted number i buffer held p values) → new_in (packeted number i buffer held p values) ≡ true
     → Session (left_of (packeted number i buffer held p values)) later → NoneNew later
     → (room : List ℕ) (held' : PacketPlaces) (q : PacketLeft) (values' : PacketPlaces) → values.written ≤ length room
-    → Meets (last_left (left_of (packeted number i buffer held p values)) later).memory (last_left (left_of (packeted number i buffer held p values)) later).state
+    → Meets (last_left (left_of (packeted number i buffer held p values)) later).memory
+    (last_left (left_of (packeted number i buffer held p values)) later).state
     (packeted number i room held' q values')
     → PacketRepeated (last_left (left_of (packeted number i buffer held p values)) later) values (take values.written p.buffer) room q values'
 session_packet_repeats o number i buffer held p values later e n s none room held' q values' fits e' =

@@ -1,7 +1,9 @@
 -- What holds of every float format, over the number w of its mantissa bits.
 -- Assumes nothing.
 use Rattle.std.specs.Prelude.{◌≡◌, refl, ◌⊎◌, ℕ, zero, suc, ◌+◌, ◌-◌, ◌*◌, ◌/◌, ◌^◌, ◌≤◌, ◌<◌, ltb}
-use Rattle.std.proofs.Common.{sym, ap, ap₂, ◌∙◌, subst, inl, inr, ⊎_elim, le_of_eq, zero-lt-suc, div-le_self, zero-add, add-suc, zero-mul, suc-mul, add-mul, mul_assoc, pow-suc, div-one, mod-lt, div-mul-le_self, le-div_iff_mul-le, div-lt_iff_lt-mul, lt_of_lt_of_le, lt_irrefl, arith, pow_pos, pow-add, pow_mono, ltb-true, ltb-false}
+use Rattle.std.proofs.Common.{sym, ap, ap₂, ◌∙◌, subst, inl, inr, ⊎_elim, le_of_eq, zero-lt-suc, div-le_self, zero-add, add-suc, zero-mul, suc-mul, add-mul}
+use Rattle.std.proofs.Common.{mul_assoc, pow-suc, div-one, mod-lt, div-mul-le_self, le-div_iff_mul-le, div-lt_iff_lt-mul, lt_of_lt_of_le, lt_irrefl, arith}
+use Rattle.std.proofs.Common.{pow_pos, pow-add, pow_mono, ltb-true, ltb-false}
 use Rattle.std.proofs.Math.Nat.{zero-div, lt-div-mul-add, suc-sub-suc, sub-zero}
 use Rattle.std.proofs.Math.Decide.{dec_lt, le_ind}
 use Rattle.std.proofs.Math.Pow.{split, high, low}
@@ -49,7 +51,8 @@ over w (suc e) f h =
 next_fields : (w e f : ℕ) → f < 2 ^ w → float_value w (suc (e * 2 ^ w + f)) ≡ float_value w (e * 2 ^ w + f) + 2 ^ (e - 1)
 next_fields w e f h =
     elim (dec_lt (suc f) (2 ^ w)) [
-      | yes k ↦ ap (float_value w) (sym (add-suc (e * 2 ^ w) f)) ∙ value_fields w e k ∙ inside w e f ∙ ap (λ (x : ℕ). x + 2 ^ (e - 1)) (sym (value_fields w e h))
+      | yes k ↦ ap (float_value w) (sym (add-suc (e * 2 ^ w) f)) ∙ value_fields w e k ∙ inside w e f
+          ∙ ap (λ (x : ℕ). x + 2 ^ (e - 1)) (sym (value_fields w e h))
       | no k ↦
           ap (float_value w) (omega (arith, suc-mul e (2 ^ w))) ∙ value_fields w (suc e) {f = 0} (pow_pos w) ∙ over w e f (omega arith)
           ∙ ap (λ (x : ℕ). x + 2 ^ (e - 1)) (sym (value_fields w e h))
@@ -81,7 +84,8 @@ small_largest w {count} h =
     between_largest w (le_of_eq (low_value w h)) (omega (arith, low_value w h, value_next w count, pow_pos (exponent w count - 1)))
 
 -- a count whose leading w + 1 bits are t, with s bits below them
-large_largest : (w s t count : ℕ) → 2 ^ w ≤ t → t < 2 ^ w + 2 ^ w → t * 2 ^ s ≤ count → count < t * 2 ^ s + 2 ^ s → Largest (float_value w) count (s * 2 ^ w + t)
+large_largest : (w s t count : ℕ) → 2 ^ w ≤ t → t < 2 ^ w + 2 ^ w → t * 2 ^ s ≤ count → count < t * 2 ^ s + 2 ^ s
+    → Largest (float_value w) count (s * 2 ^ w + t)
 large_largest w s t count a b c d =
     let f : t - 2 ^ w < 2 ^ w = omega arith in
     let code : suc s * 2 ^ w + (t - 2 ^ w) ≡ s * 2 ^ w + t = omega (arith, suc-mul s (2 ^ w)) in

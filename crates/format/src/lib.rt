@@ -1,4 +1,6 @@
 // The plain count formats: a 16-bit float, an 8-bit float and a 24-bit integer, from count to code and back.
+#![tactic(auto)]
+
 ghost use Rattle.std.specs.Prelude.{◌≡◌, ◌-◌, ◌*◌, ◌/◌, ◌^◌, ◌<◌};
 ghost use Rattle.std.specs.Int.Count.{count_leading_zeros};
 ghost use Rattle.ground.specs.Paper.{number_of};

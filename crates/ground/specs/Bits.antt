@@ -1,6 +1,6 @@
 -- Bits of bytes: "Bits go most significant first".
 -- Assumes nothing.
-use Rattle.std.specs.Prelude.{List, [], ◌∷◌, ◌++◌, ℕ, zero, suc, ◌+◌, ◌/◌, ◌%◌, ◌^◌}
+use Rattle.std.specs.Prelude.{List, [], ◌∷◌, ◌++◌, ℕ, zero, suc, ◌/◌, ◌%◌, ◌^◌}
 
 -- the w lowest bits of a number, most significant first
 abbrev pub to_bits : ℕ → ℕ → List ℕ

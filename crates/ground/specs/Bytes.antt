@@ -1,7 +1,8 @@
 -- Bytes read and written again: the bytes of the number that bytes mean are those bytes.
 -- Assumes nothing.
 use Rattle.std.specs.Prelude.{◌≡◌, refl, List, [], ◌∷◌, ◌++◌, ℕ, zero, suc, ◌+◌, ◌*◌, ◌/◌, ◌%◌, ◌^◌, ◌<◌, ◌≤◌, length, take, drop, get_or}
-use Rattle.std.proofs.Common.{sym, ap, ap₂, subst, ◌∙◌, add_assoc, add-mul, mul_assoc, mul_comm, pow-suc, zero-add, zero-lt-suc, zero-mul, add-one, arith, length-drop, drop-cons, drop-drop, get_or-drop, length-take-le, take-add}
+use Rattle.std.proofs.Common.{sym, ap, ap₂, subst, ◌∙◌, add_assoc, add-mul, mul_assoc, mul_comm, pow-suc, zero-add, zero-lt-suc, zero-mul, add-one, arith}
+use Rattle.std.proofs.Common.{length-drop, drop-cons, drop-drop, get_or-drop, length-take-le, take-add}
 use Rattle.std.proofs.Math.Arith.{digits_div, digits_lt, digits_mod}
 use Rattle.ground.specs.Words.{bytes_of, number, word_at}
 

@@ -1,7 +1,8 @@
 -- Bytes put over those of a buffer, field after field.
 -- Assumes nothing.
 use Rattle.std.specs.Prelude.{◌≡◌, refl, List, ◌∷◌, ◌++◌, ℕ, suc, ◌+◌, ◌/◌, ◌%◌, ◌^◌, ◌<◌, ◌≤◌, length, take, drop, set, get_or}
-use Rattle.std.proofs.Common.{sym, ap, ap₂, ◌∙◌, append_assoc, zero-le, le_refl, add-one, arith, length-append, length-take, length-drop, length-set, take_at, drop_at, drop-drop, take-suc, length-take-le, take_all}
+use Rattle.std.proofs.Common.{sym, ap, ap₂, ◌∙◌, append_assoc, zero-le, le_refl, add-one, arith, length-append, length-take, length-drop, length-set, take_at}
+use Rattle.std.proofs.Common.{drop_at, drop-drop, take-suc, length-take-le, take_all}
 use Rattle.std.proofs.lemmas.List.Edits.{sets-eq}
 use Rattle.std.proofs.lemmas.List.{set_at}
 use Rattle.std.proofs.Math.Seq.{append_snoc, paste, paste-zero, paste-suc}

@@ -1,7 +1,8 @@
 -- "Numbers are big endian": bytes to a number, a number to its bytes, and back.
 -- Assumes nothing.
 use Rattle.std.specs.Prelude.{◌≡◌, refl, List, [], ◌∷◌, ◌++◌, ℕ, zero, suc, ◌+◌, ◌*◌, ◌/◌, ◌%◌, ◌^◌, ◌<◌, ◌≤◌, length, take, drop, get_or}
-use Rattle.std.proofs.Common.{sym, ap, ap₂, ◌∙◌, pow-suc, mul_comm, mul_assoc, add_assoc, add-mul, mod-eq_of_lt, add-zero, mul-one, zero-lt-suc, add-one, arith, length-append, drop-cons}
+use Rattle.std.proofs.Common.{sym, ap, ap₂, ◌∙◌, pow-suc, mul_comm, mul_assoc, add_assoc, add-mul, mod-eq_of_lt, add-zero, mul-one, zero-lt-suc, add-one}
+use Rattle.std.proofs.Common.{arith, length-append, drop-cons}
 use Rattle.std.proofs.Math.Nat.{one-le-pow}
 use Rattle.std.proofs.Math.Arith.{mod-mul}
 

@@ -1,5 +1,7 @@
 // What every layer says: definitions and laws, in specs/, and 16-bit words in bytes, read and put (document 01, "Numbers are big
 // endian").
+#![tactic(auto)]
+
 ghost use Rattle.std.specs.Prelude.{◌≡◌, ◌<◌};
 ghost use Rattle.ground.specs.Promise.{LiesPromise, PutPromise, WordPromise};
 

@@ -1,4 +1,6 @@
 // Histogram memory: counters in two pages of lent words, and a state in lent words; opened, counted in, and its pages exchanged.
+#![tactic(auto)]
+
 ghost use Rattle.std.specs.Prelude.{not, ◌≡◌, ◌≤◌, length};
 ghost use Rattle.ground.specs.Outcome.{outcome_of};
 ghost use Rattle.ground.specs.Paper.{mapped, number_of};

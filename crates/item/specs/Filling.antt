@@ -1,7 +1,8 @@
 -- Bytes filled with bits from the front, the others 0: what a caller keeps who sends one item's bits after the other.
 -- Assumes nothing.
 use Rattle.std.specs.Prelude.{◌≡◌, refl, Bool, true, false, List, [], ◌∷◌, ◌++◌, ℕ, zero, suc, ◌+◌, ◌*◌, ◌-◌, ◌/◌, ◌^◌, ◌≤◌, length, take, drop, set, replicate}
-use Rattle.std.proofs.Common.{sym, ap, ap₂, ◌∙◌, subst, append_assoc, append-nil, zero-lt-suc, arith, length-append, length-take, pow_mono, take_at, drop_at, length-take-le, le-leb}
+use Rattle.std.proofs.Common.{sym, ap, ap₂, ◌∙◌, subst, append_assoc, append-nil, zero-lt-suc, arith, length-append, length-take, pow_mono, take_at, drop_at}
+use Rattle.std.proofs.Common.{length-take-le, le-leb}
 use Rattle.std.proofs.lemmas.List.{length-replicate, replicate-append-replicate}
 use Rattle.std.proofs.Math.Seq.{take-append-add, drop-append-add}
 use Rattle.ground.specs.Bits.{to_bits, bits_of}
@@ -110,7 +111,8 @@ filled_put bytes l code f fine room =
 -- ---- an item's bits sent
 
 -- the answer and the bytes of a sending that is accepted
-accepted_so : {bytes after : List ℕ} {at x r next : ℕ} {s : Sent} {left : List ℕ} → SendPromise bytes at x r s after → send_means bytes at x r ≡ accept next left
+accepted_so : {bytes after : List ℕ} {at x r next : ℕ} {s : Sent} {left : List ℕ} → SendPromise bytes at x r s after
+    → send_means bytes at x r ≡ accept next left
     → (s ≡ Sent.Next next) × (after ≡ left)
 accepted_so p e = (
   one_answer sent_paper sent_back sent_home (ap (λ (o : Outcome ℕ (List ℕ)). o.answer) (p.outcome ∙ e)) refl,

@@ -4,7 +4,7 @@ use Rattle.std.specs.Prelude.{◌≡◌, refl, List, ◌∷◌, ◌++◌, ℕ, �
 use Rattle.std.proofs.Common.{ap, sym, subst, ◌∙◌, arith, eq-eqb, le-leb, take_at}
 use Rattle.std.proofs.lemmas.Bool.{lt-leb}
 use Rattle.ground.specs.Outcome.{accept, refuse}
-use Rattle.ground.specs.Paper.{Paper, accepted, accepted_same, mapped, refused_not}
+use Rattle.ground.specs.Paper.{Paper, accepted, accepted_same, refused_not}
 use Rattle.ground.specs.Putting.{put}
 use Rattle.data_packet.specs.Meaning.{PacketValues, apid_of, data_of}
 use Rattle.data_packet.specs.Sizes.{run_sized}
@@ -20,7 +20,7 @@ use Rattle.state.specs.Words.{Asked, window, Last, bytes_in, kept_in}
 use Rattle.state.specs.declared.Turn.TheVariants.{NewAsk}
 use Rattle.histogram.specs.Meaning.{Admits, CallOutcome, Value, new, again, lent}
 use Rattle.ledger.specs.Outcomes.{call_elim}
-use Rattle.ledger.specs.Runs.{Call, increment, flip, ask, ask_packet, Ledger, NoNew, answered, opening, run, run-append, step, total_in}
+use Rattle.ledger.specs.Runs.{Call, increment, flip, ask, ask_packet, Ledger, NoNew, answered, opening, run, run-append, step}
 use Rattle.histogram.specs.States.{admits_long, keep_says}
 use Rattle.window_ask.specs.Meaning.{ask_means}
 use Rattle.ledger.specs.Stays.{call_admits, run_stays}

@@ -2,7 +2,9 @@
 -- that reaches a power.
 -- Assumes nothing.
 use Rattle.std.specs.Prelude.{◌≡◌, Bool, true, false, ◌&&◌, ℕ, zero, suc, ◌+◌, ◌-◌, ◌*◌, ◌/◌, ◌^◌, ◌≤◌, ◌<◌, leb, ltb}
-use Rattle.std.proofs.Common.{sym, ap, ◌∙◌, subst, le_refl, le_trans, lt_of_lt_of_le, lt_of_le_of_lt, lt_irrefl, one-mul, add-mul, mul_assoc, mul-le-mul_right, mul-lt-mul_of_pos_right, pow-suc, div-lt_iff_lt-mul, arith, lit<, pow_pos, pow-add, pow_mono, leb-true, ltb-true, leb-false, le-leb}
+use Rattle.std.proofs.Common.{sym, ap, ◌∙◌, subst, le_refl, le_trans, lt_of_lt_of_le, lt_of_le_of_lt, lt_irrefl, one-mul, add-mul, mul_assoc}
+use Rattle.std.proofs.Common.{mul-le-mul_right, mul-lt-mul_of_pos_right, pow-suc, div-lt_iff_lt-mul, arith, lit<, pow_pos, pow-add, pow_mono, leb-true}
+use Rattle.std.proofs.Common.{ltb-true, leb-false, le-leb}
 use Rattle.std.proofs.Math.Nat.{lt-div-mul-add}
 use Rattle.std.proofs.Math.Decide.{dec_lt}
 use Rattle.std.specs.Int.Count.{count_leading_zeros}

@@ -1,11 +1,14 @@
 -- The logarithm byte: one byte for a count, in the order of the counts; and a byte's counts, which are those that give it.
 -- Assumes nothing.
 use Rattle.std.specs.Prelude.{◌≡◌, refl, ℕ, zero, suc, ◌+◌, ◌-◌, ◌*◌, ◌^◌, ◌≤◌, ◌<◌, leb}
-use Rattle.std.proofs.Common.{sym, ap, ap₂, ◌∙◌, subst, zero-le, suc-le-suc, le_refl, le_of_eq, le_of_lt, zero-lt-suc, le_trans, le_antisymm, le_of_suc-le-suc, lt_of_lt_of_le, lt_of_le_of_lt, lt_irrefl, mul_assoc, mul_comm, zero-mul, suc-mul, mul_left_comm, mul-le-mul_left, mul-le-mul_right, le_of_mul-le-mul_right, pow-suc, arith, lit<, lit≤, pow_pos, pow-add, pow_mono, leb-true, leb-false, le-leb}
+use Rattle.std.proofs.Common.{sym, ap, ap₂, ◌∙◌, subst, zero-le, suc-le-suc, le_refl, le_of_eq, le_of_lt, zero-lt-suc, le_trans, le_antisymm}
+use Rattle.std.proofs.Common.{le_of_suc-le-suc, lt_of_lt_of_le, lt_of_le_of_lt, lt_irrefl, mul_assoc, mul_comm, zero-mul, suc-mul, mul_left_comm}
+use Rattle.std.proofs.Common.{mul-le-mul_left, mul-le-mul_right, le_of_mul-le-mul_right, pow-suc, arith, lit<, lit≤, pow_pos, pow-add, pow_mono, leb-true}
+use Rattle.std.proofs.Common.{leb-false, le-leb}
 use Rattle.std.proofs.Math.Nat.{one-le-pow, pow-zero, pow-le-pow_left}
 use Rattle.std.proofs.Math.Decide.{dec_lt}
 use Rattle.ground.specs.Choice.{pick_elim}
-use Rattle.ground.specs.Greatest.{Greatest, greatest_one, greatest_is, least_one}
+use Rattle.ground.specs.Greatest.{greatest_one, greatest_is, least_one}
 use Rattle.ground.specs.Paper.{Paper, accepted, refusal, refused}
 use Rattle.format.specs.Codes.{takes_one, takes_grows, takes_below}
 use Rattle.format.specs.Meaning.{Largest, Takes}
@@ -171,7 +174,8 @@ log8_fits {c} {v} g = takes_below (λ (k : ℕ). 2 ^ k) (λ a b h. pow_mono h) 2
 log8_of_lem : (c : ℕ) → c ≤ 2147483647 → Log8 c (log8_of c)
 log8_of_lem zero h = refl
 log8_of_lem (suc n) h =
-    let g = greatest_is (λ (k : ℕ). leb (2 ^ k) (twice_to_eighth (suc n))) 255 (le-leb 1 (twice_to_eighth (suc n)) (le_trans (lit≤ tt) (reached_one n).reaches)) in
+    let g = greatest_is (λ (k : ℕ). leb (2 ^ k) (twice_to_eighth (suc n))) 255
+    (le-leb 1 (twice_to_eighth (suc n)) (le_trans (lit≤ tt) (reached_one n).reaches)) in
     record {
       has = leb-true (2 ^ log8_of (suc n)) (twice_to_eighth (suc n)) g.has.1;
       most = λ k r. g.most k (few k r, le-leb (2 ^ k) (twice_to_eighth (suc n)) r);

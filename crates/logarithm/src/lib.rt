@@ -1,4 +1,6 @@
 // The logarithm byte of a count, and the counts that give a byte (request 2026-01).
+#![tactic(auto)]
+
 ghost use Rattle.std.specs.Prelude.{◌≡◌};
 ghost use Rattle.ground.specs.Paper.{number_of};
 ghost use Rattle.logarithm.specs.Answers.{log8_code_paper};

@@ -11,9 +11,9 @@ use lib.ListN.{drop, drop_of_length-le, get_or, length, length-drop, length-take
 use lib.Seq.{drop-cons, get_or-drop, get_or-take}
 use Rattle.state.specs.Laws.{turn_repeats}
 use Rattle.state.specs.Meaning.{repeats_in, turn_by, turn_in}
-use Rattle.state.specs.Turns.{same_asked, same_items}
+use Rattle.state.specs.Turns.{same_items}
 use Rattle.state.specs.declared.Turn.{Turn}
-use Rattle.state.specs.Words.{Asked, asked_in, inputs_in, item_count_in, items_at, state_words}
+use Rattle.state.specs.Words.{Asked, inputs_in, item_count_in, items_at, state_words}
 
 -- the turn of an ask that was told whether it repeats the kept one
 pub told_so : (l : List ℕ) (number : ℕ) (a : Asked) {same : Bool} → same ≡ repeats_in l number a → {t : Turn} → t ≡ turn_by l number same

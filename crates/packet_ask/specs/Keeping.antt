@@ -8,7 +8,8 @@ use Rattle.ground.specs.Putting.{put, length-put}
 use Rattle.item.specs.Inputs.{Inputs}
 use Rattle.pages.specs.declared.Window.{Window}
 use Rattle.state.specs.Words.{packet, Last, byte_count_at, byte_of, bytes_at, bytes_in, flip_in, item_count_at, items_at, keep_in, keep_inputs}
-use Rattle.state.specs.Words.{flag_in, flags_at, initial_at, keep_packet_in, kept_at, kept_in, low_at, most_bytes, most_items, number_at, packet_ask, page_in, second_at}
+use Rattle.state.specs.Words.{flag_in, flags_at, initial_at, keep_packet_in, kept_at, kept_in, low_at, most_bytes, most_items, number_at, packet_ask, page_in}
+use Rattle.state.specs.Words.{second_at}
 use Rattle.state.specs.Words.{second_of_hour_at, state_words, sum_at, words_at}
 use Rattle.histogram.specs.States.{Framed, Says, ten}
 use Rattle.packet_ask.specs.Parts.{part_same, place_same, put_before, put_past, put_there}

@@ -1,6 +1,6 @@
 -- What a packet ask may answer and leave: to show something of every outcome, show it of a refusal by any number but 0, a new packet and a repeat.
 -- Assumes nothing.
-use Rattle.std.specs.Prelude.{not, List, ◌++◌, ◌≡◌, leb, length, drop, take}
+use Rattle.std.specs.Prelude.{not, List, ◌++◌, ◌≡◌, leb, length, drop}
 use Rattle.std.proofs.Math.Path.{refl}
 use Rattle.std.proofs.Common.{sym, subst, arith, take_at, leb-true}
 use Prim.Native.Nat.{ℕ, ◌+◌, ◌≤◌, ◌<◌}
@@ -19,7 +19,7 @@ use Rattle.state.specs.Turns.{turn_of}
 use Rattle.state.specs.Words.{Asked, bytes_in, keep_packet_in, kept_in, page_in}
 use Rattle.state.specs.declared.Turn.TheVariants.{NewAsk, LastAsk, OtherAsk, OutOfTurn}
 use Rattle.state.specs.declared.Turn.{Turn}
-use Rattle.packet_ask.specs.Meaning.{PacketOutcome, again_means, building, handing, new_packet, new_packet_means, packet_again, packet_lent}
+use Rattle.packet_ask.specs.Meaning.{PacketOutcome, building, handing, new_packet, new_packet_means, packet_again, packet_lent}
 use Rattle.packet_ask.specs.Meaning.{packet_means, packet_turn_means}
 
 -- the packet of a run

@@ -1,4 +1,6 @@
 // Packets asked for by number: built once for each number, and the kept bytes handed out again for a repeat.
+#![tactic(auto)]
+
 mod kept;
 
 ghost use Rattle.std.specs.Prelude.{not, ◌≡◌, ◌≤◌, length};

@@ -1,4 +1,6 @@
 // Two pages of counters in lent words: where a word lies, counting, and windows of cells checked, summed, cleared, and marked on trial.
+#![tactic(auto)]
+
 mod layout;
 mod passes;
 mod walk;

@@ -1,4 +1,6 @@
 // What a histogram's state says in its lent words: which memory is its own, whose turn an ask is, and which number comes next.
+#![tactic(auto)]
+
 ghost use Rattle.std.specs.Prelude.{◌≡◌, ◌≤◌, eqb, get_or, length};
 ghost use Rattle.ground.specs.Paper.{number_of};
 ghost use Rattle.state.specs.Words.{Asked, asked_in, last_in, number_at, state_words, sum_at, window_in};

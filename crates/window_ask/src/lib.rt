@@ -1,4 +1,6 @@
 // Sums of windows asked for by number: a window of the idle page taken once for each number, and the kept sum answered again.
+#![tactic(auto)]
+
 ghost use Rattle.std.specs.Prelude.{not, ◌≡◌, ◌≤◌, length};
 ghost use Rattle.ground.specs.Paper.{number_of};
 ghost use Rattle.state.specs.Words.{flag_of, keep_in, page_in, state_words};

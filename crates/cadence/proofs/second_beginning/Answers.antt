@@ -2,7 +2,6 @@
 -- Assumes nothing.
 use mathlib.Core.Path.{refl}
 use native.Mathlib.Nat.{le_of_suc-le-suc}
-use borrow.Author.Rules.{rules}
 use Rattle.cadence.proofs.second_beginning.Goals as goal
 
 pub returns-then-second-ge-HOUR : goal.returns-then-second-ge-HOUR

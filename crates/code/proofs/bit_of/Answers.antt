@@ -1,6 +1,5 @@
 -- `code::bit_of` meets its contract: a shift to the bit, or the last bit.
 -- Assumes nothing.
-use borrow.Author.Rules.{rules}
 use Rattle.code.specs.Numbers.{last_bit}
 use Rattle.code.proofs.bit_of.Goals as goal
 

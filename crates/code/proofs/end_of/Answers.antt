@@ -1,7 +1,6 @@
 -- `code::end_of` meets its contract: eight bits a byte, up to 2^63.
 -- Assumes nothing.
 use native.Mathlib.Omega.{arith}
-use borrow.Author.Rules.{rules}
 use Rattle.code.specs.Positions.{length-bits_that_count}
 use Rattle.code.proofs.end_of.Goals as goal
 

@@ -4,7 +4,6 @@ use mathlib.Core.Path.{ap, sym, ◌∙◌}
 use mathlib.Core.Bool.{Bool, ◌&&◌}
 use lib.Dec.{leb}
 use Rattle.code.specs.Meaning.{largest}
-use borrow.Author.Rules.{rules}
 use Rattle.code.proofs.in_rule.Goals as goal
 
 pub returns-then-drop_known : goal.returns-then-drop_known

@@ -1,6 +1,5 @@
 -- `code::power` meets its contract: under 32 the shift loses nothing.
 -- Assumes nothing.
-use borrow.Author.Rules.{rules}
 use Rattle.code.specs.Numbers.{power_held, power_none}
 use Rattle.code.proofs.power.Goals as goal
 

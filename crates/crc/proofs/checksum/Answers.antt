@@ -1,6 +1,5 @@
 -- `crc::checksum` meets its contract, for few bytes and for many.
 -- Assumes nothing.
-use borrow.Author.Rules.{rules}
 use Rattle.crc.specs.Meaning.{checksum_of}
 use Rattle.crc.proofs.checksum.Goals as goal
 

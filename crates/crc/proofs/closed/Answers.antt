@@ -1,7 +1,6 @@
 -- `crc::closed` meets its contract: its four words one after the other.
 -- Assumes nothing.
 use Rattle.crc.proofs.Reading.{closes}
-use borrow.Author.Rules.{rules}
 use Rattle.crc.proofs.closed.Goals as goal
 
 pub returns : goal.returns

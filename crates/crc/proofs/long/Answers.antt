@@ -1,9 +1,9 @@
 -- `crc::long` meets its contract. The loop's invariant: the fold and the bytes that are left take the register to the whole answer.
 -- Assumes nothing.
-use Prim.Native.Nat.{ℕ, ◌≤◌, ◌-◌}
-use mathlib.Core.Path.{◌≡◌, ap, ◌∙◌}
+use Prim.Native.Nat.{ℕ}
+use mathlib.Core.Path.{ap, ◌∙◌}
 use borrow.Author.Rules.{rules}
-use lib.ListN.{length, drop}
+use lib.ListN.{drop}
 use Rattle.crc.specs.Meaning.{run}
 use Rattle.crc.specs.Folding.{register_of}
 use Rattle.crc.proofs.Folds.{after_four_lt}

@@ -1,13 +1,10 @@
 -- `crc::long` meets its contract. The loop's invariant: the fold and the bytes that are left take the register to the whole answer.
 -- Assumes nothing.
-use Prim.Native.Nat.{ℕ, ◌≤◌, ◌-◌}
-use mathlib.Core.Path.{◌≡◌, ap, ◌∙◌}
-use borrow.Author.Rules.{rules}
+use Prim.Native.Nat.{◌≤◌, ◌-◌}
+use mathlib.Core.Path.{◌≡◌}
 use lib.ListN.{length, drop}
 use Rattle.crc.specs.Meaning.{run}
 use Rattle.crc.specs.Folding.{register_of}
-use Rattle.crc.proofs.Folds.{after_four_lt}
-use Rattle.crc.proofs.Reading.{goes_on}
 use Rattle.crc.proofs.long.Given as goal
 
 abbrev pub invariant-loop-i : goal.invariant-loop-i

@@ -1,7 +1,6 @@
 -- `crc::opened` meets its contract: the first four words.
 -- Assumes nothing.
 use Rattle.crc.proofs.Reading.{opens}
-use borrow.Author.Rules.{rules}
 use Rattle.crc.proofs.opened.Goals as goal
 
 pub returns : goal.returns

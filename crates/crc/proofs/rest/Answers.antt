@@ -1,10 +1,8 @@
 -- `crc::rest` meets its contract. The loop's invariant: the bytes that are left take the register to the whole answer.
 -- Assumes nothing.
-use Prim.Native.Nat.{ℕ, ◌≤◌, ◌<◌, ◌-◌, ◌^◌}
-use mathlib.Core.Path.{◌≡◌, subst, sym, ◌∙◌}
+use Prim.Native.Nat.{ℕ, ◌<◌, ◌^◌}
+use mathlib.Core.Path.{subst, sym, ◌∙◌}
 use borrow.Author.Rules.{rules}
-use lib.ListN.{length, drop}
-use Rattle.crc.specs.Meaning.{run}
 use Rattle.crc.proofs.Reading.{two_on}
 use Rattle.crc.proofs.Sixteen.{sixteen_lt}
 use Rattle.crc.proofs.rest.Goals as goal

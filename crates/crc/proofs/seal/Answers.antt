@@ -1,7 +1,6 @@
 -- `crc::seal` meets its contract: the checksum of the bytes before it is put where it has room.
 -- Assumes nothing.
 use native.Mathlib.Omega.{arith}
-use borrow.Author.Rules.{rules}
 use lib.ListN.{length-take}
 use Rattle.ground.specs.Laws.{inside}
 use Rattle.crc.proofs.Covering.{put_behind, no_room}

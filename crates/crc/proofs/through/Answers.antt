@@ -1,7 +1,6 @@
 -- `crc::through` meets its contract: a word is its two halves.
 -- Assumes nothing.
 use Rattle.crc.proofs.Reading.{goes_through}
-use borrow.Author.Rules.{rules}
 use Rattle.crc.proofs.through.Goals as goal
 
 pub returns : goal.returns

@@ -1,7 +1,6 @@
 -- `crc::word` meets its contract: two pairs.
 -- Assumes nothing.
 use Rattle.crc.proofs.Reading.{word_goes}
-use borrow.Author.Rules.{rules}
 use Rattle.crc.proofs.word.Goals as goal
 
 pub returns : goal.returns

@@ -1,6 +1,5 @@
 -- `data_packet::assemble` meets its contract: the run behind the data's first byte.
 -- Assumes nothing.
-use borrow.Author.Rules.{rules}
 use Rattle.data_packet.proofs.Building.{assembled_as}
 use Rattle.data_packet.proofs.assemble.Goals as goal
 

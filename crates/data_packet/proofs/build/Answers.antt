@@ -1,7 +1,6 @@
 -- `data_packet::build` meets its contract: refused by 23, 22 or 19, or what the items and their packet say.
 -- Assumes nothing.
 use mathlib.Core.Path.{sym, ◌∙◌}
-use borrow.Author.Rules.{rules}
 use Rattle.data_packet.proofs.Building.{by19, by22, by23, goes_on, in_range_means}
 use Rattle.data_packet.proofs.build.Goals as goal
 

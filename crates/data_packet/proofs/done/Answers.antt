@@ -1,7 +1,6 @@
 -- `data_packet::done` meets its contract: the marks of all items put to zero.
 -- Assumes nothing.
 use mathlib.Core.Path.{refl}
-use borrow.Author.Rules.{rules}
 use Rattle.pages.specs.declared.Pass.{Pass}
 use Rattle.data_packet.proofs.Items.{settled_all_lem}
 use Rattle.data_packet.proofs.done.Goals as goal

@@ -1,6 +1,5 @@
 -- `data_packet::ending` meets its contract: the level that the cadence answers, which it does not refuse.
 -- Assumes nothing.
-use borrow.Author.Rules.{rules}
 use Rattle.data_packet.proofs.Items.{ending_is, ending_never}
 use Rattle.data_packet.proofs.ending.Goals as goal
 

@@ -3,7 +3,6 @@
 use mathlib.Core.Path.{sym}
 use native.Mathlib.Omega.{arith}
 use lib.Seq.{length-take-le}
-use borrow.Author.Rules.{rules}
 use Rattle.data_packet.proofs.Returns.{finish_done, finish_never, finish_short}
 use Rattle.data_packet.proofs.finish.Goals as goal
 

@@ -1,6 +1,5 @@
 -- `data_packet::refusal` meets its contract: what the check answered.
 -- Assumes nothing.
-use borrow.Author.Rules.{rules}
 use Rattle.data_packet.proofs.Returns.{refusal_says}
 use Rattle.data_packet.proofs.refusal.Goals as goal
 

@@ -2,7 +2,6 @@
 -- Assumes nothing.
 use mathlib.Core.Path.{refl}
 use native.Mathlib.Omega.{arith}
-use borrow.Author.Rules.{rules}
 use Rattle.data_packet.proofs.Returns.{all_inside, by12, by_check, finished, lead_inside}
 use Rattle.data_packet.proofs.run.Goals as goal
 

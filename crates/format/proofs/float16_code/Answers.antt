@@ -7,7 +7,6 @@ use Rattle.format.specs.Widths.{float_fits}
 use Rattle.format.specs.Meaning.{float_value, Takes}
 use Rattle.ground.specs.Paper.{accepted}
 use Rattle.format.proofs.Steps.{took}
-use borrow.Author.Rules.{rules}
 -- the sum is the code that the count takes
 use Rattle.format.proofs.float16_code.Goals.{After-halved}
 use Rattle.format.proofs.float16_code.Goals as goal

@@ -2,7 +2,6 @@
 -- Assumes nothing.
 use mathlib.Core.Path.{◌∙◌}
 use Rattle.format.proofs.Steps.{without, raised}
-use borrow.Author.Rules.{rules}
 use Rattle.format.proofs.float16_count.Goals as goal
 
 pub returns-then-exponent-eq0 : goal.returns-then-exponent-eq0

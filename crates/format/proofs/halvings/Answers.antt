@@ -2,7 +2,6 @@
 -- Assumes nothing.
 use native.Mathlib.Omega.{arith}
 use lib.Count.{leading_le}
-use borrow.Author.Rules.{rules}
 use Rattle.format.proofs.halvings.Goals as goal
 
 pub overflow_cast-zeros : goal.overflow_cast-zeros

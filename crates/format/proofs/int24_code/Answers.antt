@@ -1,7 +1,6 @@
 -- `format::int24_code` meets its contract: refused above the limit, else itself.
 -- Assumes nothing.
 use borrow.Author.Tests.{lt-ltb, le-ltb}
-use borrow.Author.Rules.{rules}
 use Rattle.format.proofs.int24_code.Goals as goal
 
 pub returns-then-count : goal.returns-then-count

@@ -1,6 +1,5 @@
 -- `ground::lies_in` meets its contract: the size is held against what is left.
 -- Assumes nothing.
-use borrow.Author.Rules.{rules}
 use Rattle.ground.proofs.Lying.{past, left}
 use Rattle.ground.proofs.lies_in.Goals as goal
 

@@ -1,11 +1,10 @@
 -- `histogram::feed` meets its contract. The loop's invariant: so many are counted, and the rest is still to come.
 -- Assumes nothing.
 use mathlib.Core.Path.{sym, ap, ◌∙◌}
-use Prim.Native.Nat.{ℕ, ◌-◌}
-use lib.ListN.{length}
+use Prim.Native.Nat.{ℕ}
 use borrow.Author.Rules.{rules}
 use Rattle.ground.specs.Outcome.{accept}
-use Rattle.histogram.proofs.Feeding.{Feeding, feeding_none, feeding_more, feeding_ends, feeding_done}
+use Rattle.histogram.proofs.Feeding.{feeding_none, feeding_more, feeding_ends, feeding_done}
 use Rattle.histogram.proofs.feed.Goals as goal
 
 pub loop-done-init : goal.loop-done-init

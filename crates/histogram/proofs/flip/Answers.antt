@@ -2,7 +2,6 @@
 -- Assumes nothing.
 use mathlib.Core.Path.{sym, ◌∙◌}
 use native.Mathlib.Omega.{arith}
-use borrow.Author.Rules.{rules}
 use Rattle.histogram.proofs.Calls.{flips}
 use Rattle.histogram.specs.Meaning.{Admits, flip_means}
 use Rattle.histogram.specs.States.{admits, admits_long, by13}

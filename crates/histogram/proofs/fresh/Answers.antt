@@ -1,14 +1,10 @@
 -- `histogram::fresh` meets its contract. The loop's invariant: the words before `i` are 0 and the rest are as they were.
 -- Assumes nothing.
-use mathlib.Core.List.{◌++◌}
-use mathlib.Core.Path.{◌≡◌}
-use Prim.Native.Nat.{◌≤◌, ◌-◌}
 use native.Mathlib.Omega.{arith}
-use lib.ListN.{length, replicate, drop, length-set}
+use lib.ListN.{length-set}
 use borrow.Author.Fill.{fill_none}
 use borrow.Author.Rules.{rules}
 use Rattle.ground.specs.Filling.{fill_step}
-use Rattle.state.specs.Words.{state_words}
 use Rattle.histogram.proofs.Calls.{freshened}
 use Rattle.histogram.proofs.fresh.Goals as goal
 

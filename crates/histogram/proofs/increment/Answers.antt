@@ -1,7 +1,6 @@
 -- `histogram::increment` meets its contract: refused by 13, or what counting on the active page did.
 -- Assumes nothing.
 use mathlib.Core.Path.{sym, ◌∙◌}
-use borrow.Author.Rules.{rules}
 use Rattle.histogram.proofs.Calls.{increments}
 use Rattle.histogram.specs.Meaning.{Admits, increment_means}
 use Rattle.histogram.specs.States.{admits, admits_long, by13}

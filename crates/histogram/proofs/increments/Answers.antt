@@ -1,7 +1,6 @@
 -- `histogram::increments` meets its contract: refused by 13, or what feeding the active page did.
 -- Assumes nothing.
 use mathlib.Core.Path.{sym, ◌∙◌}
-use borrow.Author.Rules.{rules}
 use Rattle.histogram.proofs.Calls.{feeds}
 use Rattle.histogram.specs.Meaning.{increments_means}
 use Rattle.histogram.specs.States.{admits, admits_long, by13}

@@ -1,7 +1,6 @@
 -- `histogram::open` meets its contract: refused by 13, or memory and state as a fresh one's.
 -- Assumes nothing.
 use mathlib.Core.Path.{sym, ◌∙◌}
-use borrow.Author.Rules.{rules}
 use Rattle.histogram.proofs.Calls.{open_short, open_odd, opened}
 use Rattle.histogram.proofs.open.Goals as goal
 

@@ -1,6 +1,5 @@
 -- `again` meets its contract: the kept bytes handed out, answered with the kept total.
 -- Assumes nothing.
-use borrow.Author.Rules.{rules}
 use Rattle.packet_ask.proofs.Asking.{hands}
 use Rattle.packet_ask.proofs.again.Goals as goal
 

@@ -1,6 +1,5 @@
 -- `again_answer` meets its contract: again with the kept total, or too short a buffer.
 -- Assumes nothing.
-use borrow.Author.Rules.{rules}
 use Rattle.packet_ask.proofs.Asking.{is_again}
 use Rattle.packet_ask.proofs.again_answer.Goals as goal
 

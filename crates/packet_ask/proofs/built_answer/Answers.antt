@@ -1,6 +1,5 @@
 -- `built_answer` meets its contract: new, or the same refusal.
 -- Assumes nothing.
-use borrow.Author.Rules.{rules}
 use Rattle.packet_ask.proofs.Asking.{is_new_lem}
 use Rattle.packet_ask.proofs.built_answer.Goals as goal
 

@@ -1,6 +1,5 @@
 -- `pages::check` meets its contract. Each return is one of a check's three outcomes.
 -- Assumes nothing.
-use borrow.Author.Rules.{rules}
 use Rattle.pages.proofs.Taking.{checked14, checked16, checked_sound}
 use mathlib.Core.Path.{sym, ◌∙◌}
 use Rattle.pages.proofs.check.Goals as goal

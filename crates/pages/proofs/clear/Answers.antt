@@ -1,10 +1,7 @@
 -- `pages::clear` meets its contract. The loop's invariant: the words before `i` are 0 and the rest are as they were.
 -- Assumes nothing.
-use mathlib.Core.List.{◌++◌}
-use mathlib.Core.Path.{◌≡◌}
-use Prim.Native.Nat.{◌≤◌, ◌-◌}
 use native.Mathlib.Omega.{arith}
-use lib.ListN.{length, replicate, drop, length-set}
+use lib.ListN.{length-set}
 use borrow.Author.Fill.{fill_none}
 use borrow.Author.Rules.{rules}
 use Rattle.ground.specs.Filling.{fill_step, fill_end}

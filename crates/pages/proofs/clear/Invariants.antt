@@ -3,11 +3,7 @@
 use mathlib.Core.List.{◌++◌}
 use mathlib.Core.Path.{◌≡◌}
 use Prim.Native.Nat.{◌≤◌, ◌-◌}
-use native.Mathlib.Omega.{arith}
-use lib.ListN.{length, replicate, drop, length-set}
-use borrow.Author.Fill.{fill_none}
-use borrow.Author.Rules.{rules}
-use Rattle.ground.specs.Filling.{fill_step, fill_end}
+use lib.ListN.{length, replicate, drop}
 use Rattle.pages.proofs.clear.Given as goal
 
 abbrev pub invariant-loop-i : goal.invariant-loop-i

@@ -1,6 +1,5 @@
 -- `pages::count` meets its contract. Each return is one of counting's four outcomes, in document 01's order.
 -- Assumes nothing.
-use borrow.Author.Rules.{rules}
 use Rattle.pages.proofs.Counting.{by14, by15, by16, one_more}
 use Rattle.pages.proofs.count.Goals as goal
 

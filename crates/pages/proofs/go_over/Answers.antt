@@ -1,6 +1,5 @@
 -- `pages::go_over` meets its contract. Each return is a side of the test of the last cell.
 -- Assumes nothing.
-use borrow.Author.Rules.{rules}
 use Rattle.pages.proofs.Taking.{gone_over, over14}
 use Rattle.pages.proofs.go_over.Goals as goal
 

@@ -1,7 +1,6 @@
 -- `pages::take` meets its contract. Each return is what the check says.
 -- Assumes nothing.
 use mathlib.Core.Path.{refl}
-use borrow.Author.Rules.{rules}
 use Rattle.pages.proofs.Taking.{check_says, not_taken, walked}
 use Rattle.pages.specs.Outcomes.{checked_inside}
 use Rattle.pages.proofs.take.Goals as goal

@@ -1,7 +1,6 @@
 -- `state::fitting` meets its contract: the three tests of 13.
 -- Assumes nothing.
 use mathlib.Core.Path.{sym, ◌∙◌}
-use borrow.Author.Rules.{rules}
 use Rattle.state.proofs.Saying.{fits_short, fits_odd, fits_last}
 use Rattle.state.proofs.fitting.Goals as goal
 

@@ -2,7 +2,6 @@
 -- Assumes nothing.
 use Prim.Native.Nat.{◌<◌}
 use native.Mathlib.Omega.{arith}
-use borrow.Author.Rules.{rules}
 use Rattle.state.proofs.Turning.{next_wraps, next_none, next_more}
 use Rattle.state.proofs.follows.Goals as goal
 

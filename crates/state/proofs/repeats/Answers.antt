@@ -1,6 +1,5 @@
 -- `repeats` meets its contract: too few words keep nothing; else the number, and what is asked for.
 -- Assumes nothing.
-use borrow.Author.Rules.{rules}
 use Rattle.state.specs.Laws.{repeats_last, repeats_not}
 use Rattle.state.specs.Words.{window}
 use Rattle.state.proofs.Turning.{repeats_short}

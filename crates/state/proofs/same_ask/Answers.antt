@@ -1,6 +1,5 @@
 -- `same_ask` meets its contract: a packet's ask is not one of a window; else the two windows.
 -- Assumes nothing.
-use borrow.Author.Rules.{rules}
 use Rattle.state.proofs.Turning.{same_kind, same_windows}
 use Rattle.state.proofs.same_ask.Goals as goal
 

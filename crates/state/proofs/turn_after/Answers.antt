@@ -1,6 +1,5 @@
 -- `turn_after` meets its contract: the last number with the same ask or another, the next number, or any other.
 -- Assumes nothing.
-use borrow.Author.Rules.{rules}
 use Rattle.state.proofs.Turning.{turn_last, turn_other, turn_new, turn_out}
 use Rattle.state.proofs.turn_after.Goals as goal
 

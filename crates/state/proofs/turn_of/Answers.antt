@@ -1,7 +1,6 @@
 -- `turn_of` meets its contract: the turn by the number, told whether the ask repeats the kept one.
 -- Assumes nothing.
 use mathlib.Core.Path.{ap, ◌∙◌}
-use borrow.Author.Rules.{rules}
 use Rattle.state.specs.Laws.{turn_repeats}
 use Rattle.state.specs.Meaning.{turn_by}
 use Rattle.state.specs.Words.{window}

@@ -1,7 +1,6 @@
 -- `window_ask::ask` meets its contract: refused by 13, or what the ask's turn says.
 -- Assumes nothing.
 use mathlib.Core.Path.{◌≡◌, refl, ◌∙◌, sym}
-use borrow.Author.Rules.{rules}
 use Rattle.state.specs.Laws.{turn_kept}
 use Rattle.state.specs.Words.{window}
 use Rattle.state.specs.declared.Turn.{Turn}

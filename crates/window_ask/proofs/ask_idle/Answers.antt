@@ -1,7 +1,6 @@
 -- `window_ask::ask_idle` meets its contract: what taking the window says.
 -- Assumes nothing.
 use mathlib.Core.Path.{refl}
-use borrow.Author.Rules.{rules}
 use Rattle.window_ask.proofs.Asking.{takes, keeps}
 use Rattle.window_ask.proofs.ask_idle.Goals as goal
 

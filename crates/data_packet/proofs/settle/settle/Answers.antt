@@ -1,13 +1,9 @@
 -- `data_packet::settle::settle` meets its contract. The loop's invariant: the windows of the items passed are settled.
 -- Assumes nothing.
-use mathlib.Core.Path.{◌≡◌, refl, ◌∙◌}
-use Prim.Native.Nat.{◌≤◌, ◌-◌}
+use mathlib.Core.Path.{◌≡◌, ◌∙◌}
 use native.Mathlib.Omega.{arith}
-use lib.ListN.{length, take}
-use borrow.Author.Rules.{rules}
+use lib.ListN.{length}
 use Rattle.pages.specs.Passes.{left_of}
-use Rattle.data_packet.specs.Marks.{touch}
-use Rattle.data_packet.specs.Running.{cleared_of}
 use Rattle.data_packet.proofs.Items.{inside_now, settle_more}
 use Rattle.data_packet.proofs.settle.settle.Goals as goal
 

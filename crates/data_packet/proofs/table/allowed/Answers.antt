@@ -1,12 +1,8 @@
 -- `data_packet::table::allowed` meets its contract. The loop's invariant: the whole table is allowed where the rest of it is.
 -- Assumes nothing.
-use mathlib.Core.Bool.{false, not}
-use mathlib.Core.Path.{◌≡◌, refl, sym, ap}
-use Prim.Native.Nat.{◌≤◌, ◌-◌}
+use mathlib.Core.Bool.{not}
+use mathlib.Core.Path.{refl, ap}
 use native.Mathlib.Omega.{arith}
-use lib.ListN.{length, drop}
-use borrow.Author.Rules.{rules}
-use Rattle.data_packet.specs.Meaning.{allowed_from}
 use Rattle.data_packet.proofs.Items.{allowed_end, allowed_more, forbidden_here}
 use Rattle.data_packet.proofs.table.allowed.Goals as goal
 

@@ -1,7 +1,6 @@
 -- `data_packet::table::allowed_item` meets its contract: what the item's own fields answered.
 -- Assumes nothing.
 use mathlib.Core.Path.{sym, ◌∙◌}
-use borrow.Author.Rules.{rules}
 use Rattle.data_packet.proofs.table.allowed_item.Goals as goal
 
 pub returns-then-not-plain : goal.returns-then-not-plain

@@ -1,6 +1,5 @@
 -- `data_packet::trial::fair` meets its contract: what the check answered.
 -- Assumes nothing.
-use borrow.Author.Rules.{rules}
 use Rattle.data_packet.proofs.Items.{fair_says}
 use Rattle.data_packet.proofs.trial.fair.Goals as goal
 

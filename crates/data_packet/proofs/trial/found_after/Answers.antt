@@ -1,6 +1,5 @@
 -- `data_packet::trial::found_after` meets its contract: what sending answered.
 -- Assumes nothing.
-use borrow.Author.Rules.{rules}
 use Rattle.data_packet.proofs.trial.found_after.Goals as goal
 
 pub returns-in-Next : goal.returns-in-Next

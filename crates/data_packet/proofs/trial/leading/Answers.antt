@@ -2,11 +2,7 @@
 -- Assumes nothing.
 use mathlib.Core.Bool.{not}
 use mathlib.Core.Path.{sym, ap, ◌∙◌}
-use Prim.Native.Nat.{◌≤◌, ◌-◌}
 use native.Mathlib.Omega.{arith}
-use lib.ListN.{length, take}
-use borrow.Author.Rules.{rules}
-use Rattle.data_packet.specs.Running.{Fair}
 use Rattle.data_packet.proofs.Items.{fair_more}
 use Rattle.data_packet.proofs.trial.leading.Goals as goal
 

@@ -1,12 +1,8 @@
 -- `data_packet::trial::leading` meets its contract. The loop's invariant: the windows of the items passed may be taken.
 -- Assumes nothing.
 use Prim.Native.Nat.{◌≤◌, ◌-◌}
-use native.Mathlib.Omega.{arith}
 use lib.ListN.{length, take}
-use borrow.Author.Rules.{rules}
-use Rattle.ground.specs.Questions.{answered_no}
 use Rattle.data_packet.specs.Running.{Fair}
-use Rattle.data_packet.proofs.Items.{fair_more}
 use Rattle.data_packet.proofs.trial.leading.Given as goal
 
 abbrev pub invariant-loop-i : goal.invariant-loop-i

@@ -1,6 +1,5 @@
 -- `data_packet::trial::pass_window` meets its contract: inside the page a pass is not refused.
 -- Assumes nothing.
-use borrow.Author.Rules.{rules}
 use Rattle.data_packet.proofs.Items.{never_outside, passed_inside}
 use Rattle.data_packet.proofs.trial.pass_window.Goals as goal
 

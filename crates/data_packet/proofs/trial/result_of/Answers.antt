@@ -2,7 +2,6 @@
 -- Assumes nothing.
 use mathlib.Core.Path.{sym, ◌∙◌}
 use native.Mathlib.Omega.{arith}
-use borrow.Author.Rules.{rules}
 use Rattle.data_packet.proofs.trial.result_of.Goals as goal
 
 pub returns-then-adds : goal.returns-then-adds

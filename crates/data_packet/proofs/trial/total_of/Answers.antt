@@ -1,7 +1,6 @@
 -- `data_packet::trial::total_of` meets its contract.
 -- Assumes nothing.
 use native.Mathlib.Omega.{arith}
-use borrow.Author.Rules.{rules}
 use Rattle.data_packet.proofs.trial.total_of.Goals as goal
 
 pub returns-then-clear : goal.returns-then-clear

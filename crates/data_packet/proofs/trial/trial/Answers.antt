@@ -1,13 +1,7 @@
 -- `data_packet::trial::trial` meets its contract. The loop's invariant: what was found is the trial of the items passed.
 -- Assumes nothing.
 use mathlib.Core.Path.{◌≡◌, refl, ◌∙◌}
-use Prim.Native.Nat.{◌*◌, ◌≤◌, ◌-◌}
 use native.Mathlib.Omega.{arith}
-use lib.ListN.{length, take}
-use borrow.Author.Rules.{rules}
-use Rattle.ground.specs.Bits.{bits_of}
-use Rattle.data_packet.specs.Running.{begun, try_items}
-use Rattle.data_packet.specs.Steps.{Traced, most_sum}
 use Rattle.data_packet.proofs.Items.{inside_now}
 use Rattle.data_packet.proofs.Trying.{at_most, first_long, sums_more, traced_first, traced_more}
 use Rattle.data_packet.proofs.trial.trial.Goals as goal

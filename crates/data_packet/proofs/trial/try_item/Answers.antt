@@ -1,6 +1,5 @@
 -- `data_packet::trial::try_item` meets its contract: its parts, one after the other.
 -- Assumes nothing.
-use borrow.Author.Rules.{rules}
 use Rattle.data_packet.proofs.Trying.{window_inside, try_made}
 use Rattle.data_packet.proofs.trial.try_item.Goals as goal
 

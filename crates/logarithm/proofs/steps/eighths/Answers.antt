@@ -1,7 +1,7 @@
 -- `logarithm::steps::eighths` meets its contract. The loop's invariant: of the eighths looked at so far, those that are reached.
 -- Assumes nothing.
 use mathlib.Core.Path.{◌≡◌, subst}
-use Prim.Native.Nat.{ℕ, ◌-◌, ◌≤◌}
+use Prim.Native.Nat.{ℕ}
 use native.Mathlib.Omega.{arith}
 use borrow.Author.Rules.{rules}
 use Rattle.logarithm.specs.Eighths.{Eighths, eighths_none, eighths_more}

@@ -1,6 +1,5 @@
 -- `logarithm::steps::reaches` meets its contract: a count reaches the power where it is not below the first that does.
 -- Assumes nothing.
-use borrow.Author.Rules.{rules}
 use Rattle.logarithm.specs.Eighths.{first_reached, first_missed}
 use Rattle.logarithm.proofs.steps.reaches.Goals as goal
 

@@ -1,12 +1,8 @@
 -- `hand_out` meets its contract. The loop's invariant: the bytes before `i` are handed out, and the rest of the buffer is as it was.
 -- Assumes nothing.
-use mathlib.Core.Path.{◌≡◌}
-use Prim.Native.Nat.{◌-◌, ◌≤◌}
 use native.Mathlib.Omega.{arith}
-use lib.ListN.{length}
 use borrow.Author.Rules.{rules}
-use Rattle.ground.specs.Putting.{Copied, copied_all, copied_none}
-use Rattle.state.specs.Words.{byte_count_in, bytes_in, state_words}
+use Rattle.ground.specs.Putting.{copied_all, copied_none}
 use Rattle.packet_ask.proofs.Copying.{bytes_long, handed_step}
 use Rattle.packet_ask.proofs.kept.hand_out.Goals as goal
 

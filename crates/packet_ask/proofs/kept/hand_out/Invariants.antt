@@ -2,17 +2,15 @@
 -- Assumes nothing.
 use mathlib.Core.Path.{◌≡◌}
 use Prim.Native.Nat.{◌-◌, ◌≤◌}
-use native.Mathlib.Omega.{arith}
 use lib.ListN.{length}
-use borrow.Author.Rules.{rules}
-use Rattle.ground.specs.Putting.{Copied, copied_all, copied_none}
+use Rattle.ground.specs.Putting.{Copied}
 use Rattle.state.specs.Words.{byte_count_in, bytes_in, state_words}
-use Rattle.packet_ask.proofs.Copying.{bytes_long, handed_step}
 use Rattle.packet_ask.proofs.kept.hand_out.Given as goal
 
 abbrev pub invariant-loop-i : goal.invariant-loop-i
 invariant-loop-i l =
-    (state_words ≤ length l.state) × (l.count ≡ byte_count_in l.state) × (l.count ≤ length l.initial.buffer) × Copied l.initial.buffer 0 (bytes_in l.state) l.buffer l.i
+    (state_words ≤ length l.state) × (l.count ≡ byte_count_in l.state) × (l.count ≤ length l.initial.buffer)
+    × Copied l.initial.buffer 0 (bytes_in l.state) l.buffer l.i
 
 abbrev pub decreases-loop-i : goal.decreases-loop-i
 decreases-loop-i l = l.count - l.i

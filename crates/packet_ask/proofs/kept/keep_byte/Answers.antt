@@ -1,6 +1,5 @@
 -- `keep_byte` meets its contract: one store.
 -- Assumes nothing.
-use borrow.Author.Rules.{rules}
 use Rattle.packet_ask.proofs.kept.keep_byte.Goals as goal
 
 pub returns : goal.returns

@@ -1,12 +1,9 @@
 -- `keep_bytes` meets its contract. The loop's invariant: the bytes before `i` are kept, and the other words are as they were.
 -- Assumes nothing.
 use Prim.Native.Nat.{◌-◌, ◌≤◌}
-use native.Mathlib.Omega.{arith}
 use lib.ListN.{length}
-use borrow.Author.Rules.{rules}
-use Rattle.ground.specs.Putting.{Copied, copied_all, copied_none}
+use Rattle.ground.specs.Putting.{Copied}
 use Rattle.state.specs.Words.{bytes_at, most_bytes, state_words}
-use Rattle.packet_ask.proofs.Copying.{copied_step}
 use Rattle.packet_ask.proofs.kept.keep_bytes.Given as goal
 
 abbrev pub invariant-loop-i : goal.invariant-loop-i

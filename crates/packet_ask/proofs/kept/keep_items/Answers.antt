@@ -1,11 +1,8 @@
 -- `keep_items` meets its contract. The loop's invariant: the items before `i` are kept, and the other words are as they were.
 -- Assumes nothing.
-use Prim.Native.Nat.{◌-◌, ◌≤◌}
 use native.Mathlib.Omega.{arith}
-use lib.ListN.{length}
 use borrow.Author.Rules.{rules}
-use Rattle.ground.specs.Putting.{Copied, copied_all, copied_none}
-use Rattle.state.specs.Words.{items_at, most_items, state_words}
+use Rattle.ground.specs.Putting.{copied_all, copied_none}
 use Rattle.packet_ask.proofs.Copying.{copied_step}
 use Rattle.packet_ask.proofs.kept.keep_items.Goals as goal
 

@@ -1,6 +1,5 @@
 -- `keep_packet` meets its contract: inputs, items, how many bytes and the bytes, one after the other.
 -- Assumes nothing.
-use borrow.Author.Rules.{rules}
 use Rattle.packet_ask.proofs.Copying.{kept_whole}
 use Rattle.packet_ask.proofs.kept.keep_packet.Goals as goal
 

@@ -1,6 +1,5 @@
 -- `packet_turn` meets its contract: the turn by the number, told whether the ask repeats the kept one.
 -- Assumes nothing.
-use borrow.Author.Rules.{rules}
 use Rattle.packet_ask.proofs.Comparing.{told_so}
 use Rattle.packet_ask.proofs.kept.packet_turn.Goals as goal
 

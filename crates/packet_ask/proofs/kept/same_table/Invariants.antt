@@ -1,9 +1,7 @@
 -- `same_table` meets its contract. The loop's invariant: whether the items before `i` are the same is said, and with it the rest decides.
 -- Assumes nothing.
 use Prim.Native.Nat.{◌-◌}
-use native.Mathlib.Omega.{arith}
-use borrow.Author.Rules.{rules}
-use Rattle.packet_ask.proofs.Comparing.{Alike, alike_all, alike_more, alike_none, other_count}
+use Rattle.packet_ask.proofs.Comparing.{Alike}
 use Rattle.packet_ask.proofs.kept.same_table.Given as goal
 
 abbrev pub invariant-loop-i : goal.invariant-loop-i

@@ -1,7 +1,6 @@
 -- `pages::layout::place` meets its contract. The layout's definition, and its law within.
 -- Assumes nothing.
 use native.Mathlib.Omega.{arith}
-use borrow.Author.Rules.{rules}
 use Rattle.pages.specs.Layout.{place_of}
 use Rattle.pages.proofs.layout.place.Goals as goal
 

@@ -1,6 +1,5 @@
 -- `pages::passes::flags_of` meets its contract. Each return is a clause of `flags_of`.
 -- Assumes nothing.
-use borrow.Author.Rules.{rules}
 use Rattle.pages.proofs.passes.flags_of.Goals as goal
 
 pub returns-in-Keep : goal.returns-in-Keep

@@ -1,6 +1,5 @@
 -- `pages::passes::left` meets its contract. Its calls are the choices of `left_by`.
 -- Assumes nothing.
-use borrow.Author.Rules.{rules}
 use Rattle.pages.proofs.passes.left.Goals as goal
 
 pub returns : goal.returns

@@ -2,7 +2,6 @@
 -- Assumes nothing.
 use Prim.Native.Nat.{◌*◌, ◌<◌}
 use native.Mathlib.Omega.{arith}
-use borrow.Author.Rules.{rules}
 use Rattle.pages.proofs.Walking.{row_far}
 -- the product is far below it
 use Rattle.pages.proofs.walk.row_start.Goals.{After-row_step-step}

@@ -1,10 +1,7 @@
 -- `pages::walk::sound_row` meets its contract. The loop's invariant: the flag says whether the cells passed are sound.
 -- Assumes nothing.
-use mathlib.Core.Path.{◌≡◌, refl}
+use mathlib.Core.Path.{◌≡◌}
 use Prim.Native.Nat.{◌≤◌, ◌-◌}
-use native.Mathlib.Omega.{arith}
-use borrow.Author.Rules.{rules}
-use Rattle.pages.proofs.Walking.{sound_cell}
 use Rattle.pages.specs.Meaning.{row_of, sound_of}
 use Rattle.pages.proofs.walk.sound_row.Given as goal
 

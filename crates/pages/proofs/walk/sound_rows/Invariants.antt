@@ -1,10 +1,7 @@
 -- `pages::walk::sound_rows` meets its contract. The loop's invariant: the flag says whether the rows passed are sound.
 -- Assumes nothing.
-use mathlib.Core.Path.{◌≡◌, refl}
-use Prim.Native.Nat.{◌+◌, ◌≤◌, ◌-◌}
-use native.Mathlib.Omega.{arith}
-use borrow.Author.Rules.{rules}
-use Rattle.pages.proofs.Walking.{sound_step, row_within}
+use mathlib.Core.Path.{◌≡◌}
+use Prim.Native.Nat.{◌≤◌, ◌-◌}
 use Rattle.pages.specs.Meaning.{rows_in, sound_of}
 use Rattle.pages.proofs.walk.sound_rows.Given as goal
 

@@ -3,7 +3,6 @@
 use mathlib.Core.Path.{◌∙◌, ap}
 use Prim.Native.Nat.{ℕ}
 use lib.ListN.{get_or, set}
-use borrow.Author.Rules.{rules}
 use Rattle.ground.specs.Choice.{pick}
 use Rattle.pages.specs.Flags.{left_by_lem, value_by}
 use Rattle.pages.proofs.walk.visit.Goals as goal

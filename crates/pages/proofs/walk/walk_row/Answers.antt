@@ -1,14 +1,11 @@
 -- `pages::walk::walk_row` meets its contract. The loop's invariant: memory and sum are those of the pass over the cells so far.
 -- Assumes nothing.
 use mathlib.Core.Path.{◌∙◌, ◌≡◌, refl}
-use Prim.Native.Nat.{◌+◌, ◌*◌, ◌≤◌, ◌-◌}
 use native.Mathlib.Omega.{arith}
-use lib.ListN.{length}
 use borrow.Author.Rules.{rules}
 use Rattle.pages.proofs.Walking.{pass_cell}
-use Rattle.pages.specs.Meaning.{row_of, walk_at}
+use Rattle.pages.specs.Meaning.{walk_at}
 use Rattle.pages.specs.Flags.{pass_by}
-use Rattle.pages.specs.Passes.{pass_of}
 use Rattle.pages.proofs.walk.walk_row.Goals as goal
 
 pub loop-column-init : goal.loop-column-init

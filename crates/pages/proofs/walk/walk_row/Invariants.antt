@@ -1,11 +1,8 @@
 -- `pages::walk::walk_row` meets its contract. The loop's invariant: memory and sum are those of the pass over the cells so far.
 -- Assumes nothing.
-use mathlib.Core.Path.{◌∙◌, ◌≡◌, refl}
+use mathlib.Core.Path.{◌≡◌}
 use Prim.Native.Nat.{◌+◌, ◌*◌, ◌≤◌, ◌-◌}
-use native.Mathlib.Omega.{arith}
 use lib.ListN.{length}
-use borrow.Author.Rules.{rules}
-use Rattle.pages.proofs.Walking.{pass_cell}
 use Rattle.pages.specs.Meaning.{row_of, walk_at}
 use Rattle.pages.specs.Flags.{pass_by}
 use Rattle.pages.specs.Passes.{pass_of}
@@ -14,7 +11,8 @@ use Rattle.pages.proofs.walk.walk_row.Given as goal
 abbrev pub invariant-loop-column : goal.invariant-loop-column
 invariant-loop-column l =
     (l.column ≤ l.width) × (length l.memory ≡ length l.initial.memory)
-    × (walk_at l.memory l.total ≡ pass_of (pass_by l.trial l.clear l.settle) (length l.initial.memory) l.page (walk_at l.initial.memory l.sum) (row_of l.start l.column))
+    × (walk_at l.memory l.total
+    ≡ pass_of (pass_by l.trial l.clear l.settle) (length l.initial.memory) l.page (walk_at l.initial.memory l.sum) (row_of l.start l.column))
     × (l.total ≤ l.sum + l.column * 4294967296)
 
 abbrev pub decreases-loop-column : goal.decreases-loop-column

@@ -1,14 +1,11 @@
 -- `pages::walk::walk_rows` meets its contract. The loop's invariant: memory and sum are those of the pass over the rows so far.
 -- Assumes nothing.
 use mathlib.Core.Path.{◌≡◌, ◌∙◌, refl}
-use Prim.Native.Nat.{◌+◌, ◌*◌, ◌≤◌, ◌<◌, ◌-◌}
+use Prim.Native.Nat.{◌+◌, ◌<◌}
 use native.Mathlib.Omega.{arith}
-use lib.ListN.{length}
-use borrow.Author.Rules.{rules}
 use Rattle.pages.proofs.Walking.{pass_step, row_within}
-use Rattle.pages.specs.Meaning.{rows_in, walk_at}
+use Rattle.pages.specs.Meaning.{walk_at}
 use Rattle.pages.specs.Flags.{pass_by}
-use Rattle.pages.specs.Passes.{pass_of}
 use Rattle.pages.proofs.walk.walk_rows.Goals as goal
 
 pub loop-row-init : goal.loop-row-init

@@ -2,7 +2,6 @@
 -- Assumes nothing.
 use borrow.Enum.Refused.{opened}
 use mathlib.Core.Path.{refl, ap}
-use borrow.Author.Rules.{rules}
 use Rattle.plavotesk.specs.Meaning.{PacketPlaces}
 use Rattle.plavotesk.proofs.Leaving.{packet_refused}
 use Rattle.plavotesk.proofs.histograms.hand_packet_over.Goals as goal

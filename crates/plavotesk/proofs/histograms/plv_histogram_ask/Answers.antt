@@ -1,6 +1,5 @@
 -- `plv_histogram_ask` meets its contract: what the ask leaves, and its sum in the lent places.
 -- Assumes nothing.
-use borrow.Author.Rules.{rules}
 use Rattle.plavotesk.proofs.Leaving.{leaves_asked}
 use Rattle.plavotesk.proofs.histograms.plv_histogram_ask.Goals as goal
 

@@ -1,6 +1,5 @@
 -- `plv_histogram_flip` meets its contract: what the flip leaves.
 -- Assumes nothing.
-use borrow.Author.Rules.{rules}
 use Rattle.plavotesk.proofs.Leaving.{leaves}
 use Rattle.plavotesk.proofs.histograms.plv_histogram_flip.Goals as goal
 

@@ -1,6 +1,5 @@
 -- `plv_histogram_increment` meets its contract: what the increment leaves.
 -- Assumes nothing.
-use borrow.Author.Rules.{rules}
 use Rattle.plavotesk.proofs.Leaving.{leaves}
 use Rattle.plavotesk.proofs.histograms.plv_histogram_increment.Goals as goal
 

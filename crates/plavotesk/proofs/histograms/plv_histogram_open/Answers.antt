@@ -1,6 +1,5 @@
 -- `plv_histogram_open` meets its contract: what opening leaves.
 -- Assumes nothing.
-use borrow.Author.Rules.{rules}
 use Rattle.plavotesk.proofs.Leaving.{leaves}
 use Rattle.plavotesk.proofs.histograms.plv_histogram_open.Goals as goal
 

@@ -1,6 +1,5 @@
 -- `plv_histogram_packet` meets its contract: what the packet ask leaves, and its values in the lent places.
 -- Assumes nothing.
-use borrow.Author.Rules.{rules}
 use Rattle.plavotesk.proofs.Leaving.{leaves_packet}
 use Rattle.plavotesk.proofs.histograms.plv_histogram_packet.Goals as goal
 
