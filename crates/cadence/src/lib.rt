@@ -11,14 +11,14 @@ ghost use Rattle.cadence.specs.Promise.{SecondsPromise, BeginningPromise, Ending
 const HOUR: u16 = 3600;
 
 // How many seconds a level lasts, or the refusal of a level over 7.
-#[derive(Drop)]
+#[derive(Clone, Copy)]
 pub enum Length {
     Seconds(u16),
     OutOfRange,
 }
 
 // The level asked for, 0 to 7, or the refusal of a second over 3,599.
-#[derive(Drop)]
+#[derive(Clone, Copy)]
 pub enum Level {
     At(u8),
     OutOfRange,

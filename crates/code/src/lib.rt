@@ -17,7 +17,7 @@ pub const LARGEST: u32 = (1 << (GREATEST_PLACE + 1)) - 1;
 pub const LONGEST_RUN: u32 = (GREATEST_PLACE - 1) / 2;
 
 // What writing a code answers: the next bit position, or why nothing was written.
-#[derive(Drop)]
+#[derive(Clone, Copy)]
 pub enum Packed {
     Next(u64),
     OutsideRule,
@@ -26,7 +26,7 @@ pub enum Packed {
 
 // Why a code is not read: a drop or a number outside the rule, bits that ran out, with the least number that is missing, a redundant zero, a run of
 // ones too long.
-#[derive(Drop)]
+#[derive(Clone, Copy)]
 pub enum Refusal {
     OutsideRule,
     RanOut { missing: u8 },
@@ -35,7 +35,7 @@ pub enum Refusal {
 }
 
 // What reading a code's shape answers: its sign bit, its decoded magnitude, its error and the next bit position, or why there is none.
-#[derive(Drop)]
+#[derive(Clone, Copy)]
 pub enum ShapeAnswer {
     Shape {
         sign: u32,
@@ -47,7 +47,7 @@ pub enum ShapeAnswer {
 }
 
 // What reading a code answers: the number and the next bit position, or why there is none.
-#[derive(Drop)]
+#[derive(Clone, Copy)]
 pub enum Unpacked {
     Number { value: i32, next: u64 },
     Refused(Refusal),

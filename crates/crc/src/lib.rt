@@ -10,7 +10,7 @@ ghost use Rattle.crc.specs.Folding.{sixteen, carry_of, spread_of, after_word, re
 use ground::{lies_in, put_word, word_at};
 
 // Sixteen bytes that stand for all bytes so far: they take the register from 0 to where those take it.
-#[derive(Drop)]
+#[derive(Clone, Copy)]
 struct Fold {
     first: u32,
     second: u32,

@@ -47,7 +47,7 @@ pub enum Built {
 }
 
 // What a trial of items found: the last result, the total of the clearing items' own sums, the bit position after what was sent, and whether all fits.
-#[derive(Drop)]
+#[derive(Clone, Copy)]
 pub struct Found {
     pub previous: u64,
     pub total: u64,

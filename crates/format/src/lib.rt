@@ -9,28 +9,28 @@ ghost use Rattle.format.specs.Promise.{Float16CodePromise, Float16CountPromise, 
 ghost use Rattle.format.specs.Promise.{Int24CodePromise, Int24CountPromise};
 
 // The 16-bit float of a count, or the refusal of a count too large for it.
-#[derive(Drop)]
+#[derive(Clone, Copy)]
 pub enum Code16 {
     Code(u16),
     TooLarge,
 }
 
 // The 8-bit float of a count, or the refusal of a count too large for it.
-#[derive(Drop)]
+#[derive(Clone, Copy)]
 pub enum Code8 {
     Code(u8),
     TooLarge,
 }
 
 // The 24-bit integer of a count, or the refusal of a count too large for it.
-#[derive(Drop)]
+#[derive(Clone, Copy)]
 pub enum Code24 {
     Code(u32),
     TooLarge,
 }
 
 // The count of a 24-bit integer, or the refusal of a code above its limit.
-#[derive(Drop)]
+#[derive(Clone, Copy)]
 pub enum Count24 {
     Count(u32),
     TooLarge,

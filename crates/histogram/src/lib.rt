@@ -16,14 +16,14 @@ pub use state::STATE_WORDS;
 use state::{SECOND, WORDS, fitting};
 
 // What opening answers.
-#[derive(Drop)]
+#[derive(Clone, Copy)]
 pub enum Opened {
     Ready,
     WrongMemory,
 }
 
 // What an increment answers.
-#[derive(Drop)]
+#[derive(Clone, Copy)]
 pub enum IncrementAnswer {
     Counted,
     WrongMemory,
@@ -33,14 +33,14 @@ pub enum IncrementAnswer {
 }
 
 // What a run of increments answers: how many were counted, and the number of the refusal that ended it, 0 where none did.
-#[derive(Drop)]
+#[derive(Clone, Copy)]
 pub enum IncrementsAnswer {
     Fed { count: u64, ended: u8 },
     WrongMemory,
 }
 
 // What a flip answers.
-#[derive(Drop)]
+#[derive(Clone, Copy)]
 pub enum FlipAnswer {
     Exchanged,
     WrongMemory,

@@ -10,7 +10,7 @@ ghost use Rattle.item.specs.Promise.{SendPromise};
 use pages::Window;
 
 // What sending an item's result answers: the next bit position, or why nothing was written.
-#[derive(Drop)]
+#[derive(Clone, Copy)]
 pub enum Sent {
     Next(u64),
     TooLarge,

@@ -87,7 +87,7 @@ pub fn put_answer(line: Line, room: &mut [u8]) -> usize
 }
 
 // What a run over bytes answers: what is known of the line that it ends in, the bytes used and the bytes put.
-#[derive(Drop)]
+#[derive(Clone, Copy)]
 pub struct Ran {
     pub line: Line,
     pub used: usize,

@@ -9,14 +9,14 @@ ghost use Rattle.logarithm.specs.Promise.{Log8CodePromise, Log8CountsPromise};
 mod steps;
 
 // The logarithm byte of a count, or the refusal of a count too large for it.
-#[derive(Drop)]
+#[derive(Clone, Copy)]
 pub enum Log8Code {
     Code(u8),
     TooLarge,
 }
 
 // The smallest and the largest count that give a logarithm byte, or the word that no count does.
-#[derive(Drop)]
+#[derive(Clone, Copy)]
 pub enum Log8Counts {
     Between(u64, u64),
     NoCount,

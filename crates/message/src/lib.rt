@@ -13,7 +13,7 @@ use parts::{data_size, number_at, put_number, sayable_as};
 
 // What reading answers: a message with its address, its size tag, its value and the bytes that it used; a wrong mark; a
 // message that is cut short; a wrong checksum.
-#[derive(Drop)]
+#[derive(Clone, Copy)]
 pub enum MessageRead {
     Message {
         address: u16,
@@ -27,7 +27,7 @@ pub enum MessageRead {
 }
 
 // What writing answers: the bytes written; an address, a tag or bits outside the rule; a buffer that is too short.
-#[derive(Drop)]
+#[derive(Clone, Copy)]
 pub enum MessageWritten {
     Bytes(usize),
     OutsideRule,

@@ -9,7 +9,7 @@ ghost use Rattle.pack.specs.Steps.{Holds, PlacePromise, byte_bits};
 use code::Packed;
 
 // Bits held in a number, the first counting most.
-#[derive(Drop)]
+#[derive(Clone, Copy)]
 pub(crate) struct Held {
     pub(crate) number: u64,
     pub(crate) count: u32,

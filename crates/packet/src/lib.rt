@@ -22,7 +22,7 @@ pub enum Found {
 }
 
 // What a packet's header says: its APID and the bytes of data; no packet stands there; the capture is too long.
-#[derive(Drop)]
+#[derive(Clone, Copy)]
 pub enum Headed {
     Packet { apid: u16, length: u16 },
     NoPacket,
@@ -30,7 +30,7 @@ pub enum Headed {
 }
 
 // What writing answers: the bytes written; more than 8,187 bytes of data; a buffer that is too short.
-#[derive(Drop)]
+#[derive(Clone, Copy)]
 pub enum Written {
     Bytes(usize),
     TooMuchData,

@@ -33,7 +33,7 @@ pub enum PacketAnswer {
 }
 
 // What handing out the kept bytes again answers: how many, or that the buffer is too short for them.
-#[derive(Drop)]
+#[derive(Clone, Copy)]
 pub enum Rewritten {
     Bytes(u64),
     TooShort,

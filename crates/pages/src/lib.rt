@@ -22,7 +22,7 @@ pub struct Window {
 }
 
 // What counting answers.
-#[derive(Drop)]
+#[derive(Clone, Copy)]
 pub enum CountAnswer {
     Counted,
     WrongAddress,
@@ -31,7 +31,7 @@ pub enum CountAnswer {
 }
 
 // What taking a window answers: the sum of its cells, or why not.
-#[derive(Drop)]
+#[derive(Clone, Copy)]
 pub enum Taken {
     Sum(u64),
     WrongCell,
@@ -39,7 +39,7 @@ pub enum Taken {
 }
 
 // What checking a window answers.
-#[derive(Drop)]
+#[derive(Clone, Copy)]
 pub enum Checked {
     Sound,
     WrongCell,
@@ -66,7 +66,7 @@ struct Flags {
 }
 
 // What going over a window answers: the sum of what was seen, or why not.
-#[derive(Drop)]
+#[derive(Clone, Copy)]
 pub enum Passed {
     Sum(u64),
     WrongCell,

@@ -13,14 +13,14 @@ use lines::{Line, put_answer, put_header, run};
 const STANDARD_OUTPUT: i32 = 1;
 
 // What was meant for standard output: how many bytes, and whether it took them all.
-#[derive(Drop)]
+#[derive(Clone, Copy)]
 pub struct Output {
     pub put: usize,
     pub written: bool,
 }
 
 // What printing a piece answers: the line that does not end in it, how many bytes its answers have, and whether all were taken.
-#[derive(Drop)]
+#[derive(Clone, Copy)]
 pub struct Printed {
     pub line: Line,
     pub put: usize,

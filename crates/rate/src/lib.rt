@@ -15,14 +15,14 @@ use code::{Refusal, ShapeAnswer};
 use record::{Rate, Reading};
 
 // What reading counts answers: the reading and the next bit position, or why there is none.
-#[derive(Drop)]
+#[derive(Clone, Copy)]
 pub enum ReadingAnswer {
     Counts { reading: Reading, next: u64 },
     Refused(Refusal),
 }
 
 // What forming a rate answers: the rate and the next bit position, why there is no reading, or no such level.
-#[derive(Drop)]
+#[derive(Clone, Copy)]
 pub enum RateAnswer {
     Formed { rate: Rate, next: u64 },
     Refused(Refusal),

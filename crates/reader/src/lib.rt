@@ -7,7 +7,7 @@ ghost use Rattle.reader.specs.Promise.{ReaderPromise};
 use code::Unpacked;
 
 // A reader: the lent bytes and a bit position.
-#[derive(Drop)]
+#[derive(Clone, Copy)]
 pub struct Reader<'a> {
     pub bytes: &'a [u8],
     pub at: u64,

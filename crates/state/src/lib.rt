@@ -63,7 +63,7 @@ pub const BYTES: usize = BYTE_COUNT + 1;
 pub const STATE_WORDS: usize = BYTES + MOST_BYTES;
 
 // A new ask; the last one repeated, with its kept sum or total; the last number with another ask; or out of turn.
-#[derive(Drop)]
+#[derive(Clone, Copy)]
 pub enum Turn {
     NewAsk,
     LastAsk(u64),
@@ -72,7 +72,7 @@ pub enum Turn {
 }
 
 // What the number of the next ask answers.
-#[derive(Drop)]
+#[derive(Clone, Copy)]
 pub enum NextAnswer {
     Number(u16),
     WrongMemory,

@@ -22,27 +22,24 @@ pub fn run(bytes: &[u8], at: u64, drop: u8) {
 
 // The line of a code: 0, the number and the next position, which it answers; or the refusal, and where it was asked for.
 fn told(answer: Unpacked, at: u64) -> u64 {
+    say::first(code::unpacked_number(answer) as u64);
     let next = next_of(answer, at);
     say::end();
     next
 }
 
-// What stands on the line: 0, the number and the next position of a code that was read; or the refusal.
+// The number and the next position of a code that was read.
 fn next_of(answer: Unpacked, at: u64) -> u64 {
     match answer {
         Unpacked::Number { value, next } => {
-            say::first(code::unpacked_number(answer) as u64);
             say::signed(value);
             say::more(next);
             next
         }
-        Unpacked::Refused(Refusal::RanOut { missing }) => {
-            say::first(code::unpacked_number(answer) as u64);
-            say::more(missing as u64);
-            at
-        }
-        Unpacked::Refused(_) => {
-            say::first(code::unpacked_number(answer) as u64);
+        Unpacked::Refused(why) => {
+            if let Refusal::RanOut { missing } = why {
+                say::more(missing as u64);
+            }
             at
         }
     }
