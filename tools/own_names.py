@@ -1,7 +1,7 @@
 #!/usr/bin/env python3
 """Brings this repository's own definitions and lemmas to today's spelling: snake case, a dash only between two names.
 
-usage: tools/own_names.py [--list]      at the top of the repository, once, right after /opt/rattle/port/port.py
+usage: tools/own_names.py [--list]      at the top of the repository, once, right after the kit's port.py
 
 What is renamed is what specs/ and the lemma files of proofs/ define. Functions of src/, exported names, strings, names of generated goals and
 words of the library keep their spelling. With --list it writes nothing and prints each old and new name.
