@@ -8,9 +8,9 @@ use Rattle.ground.specs.Questions.{past}
 use Rattle.cadence.specs.declared.Length.TheVariants.{Seconds}
 use Rattle.cadence.specs.Meaning.{seconds_means}
 use Rattle.cadence.specs.Promise.{SecondsPromise}
--- a level's arm answers what the definition has at that level
 use Rattle.cadence.proofs.level_seconds.Goals as goal
 
+-- a level's arm answers what the definition has at that level
 at : {level n s : ℕ} → level ≡ n → seconds_means n ≡ accepted s → SecondsPromise level (Seconds s)
 at {s = s} e q = record { answer = rw (e, q) }
 

@@ -7,10 +7,10 @@ use Rattle.format.specs.Widths.{float_fits}
 use Rattle.format.specs.Meaning.{float_value, Takes}
 use Rattle.ground.specs.Paper.{accepted}
 use Rattle.format.proofs.Steps.{took}
--- the sum is the code that the count takes
 use Rattle.format.proofs.float8_code.Goals.{After-halved}
 use Rattle.format.proofs.float8_code.Goals as goal
 
+-- the sum is the code that the count takes
 takes : (c : After-halved) → Takes (float_value 3) (2 ^ 34) c.args.count
     (accepted (c.halvings-shift.result * 2 ^ 3 + c.halved.result))
 takes c = took 3 (2 ^ 34) (lit< tt) (lit≤ tt) c.if-count-ge-LIMIT8.false c.halvings-shift.ensures.0 c.halved.ensures

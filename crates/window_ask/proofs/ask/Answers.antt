@@ -8,11 +8,11 @@ use Rattle.window_ask.proofs.Asking.{asks, repeats}
 use Rattle.histogram.specs.Meaning.{Admits, CallOutcome}
 use Rattle.histogram.specs.States.{admits, admits_long, by13}
 use Rattle.window_ask.specs.Meaning.{ask_means, turn_means}
-use Rattle.window_ask.proofs.ask.Goals.{After-turn_of-turn, Else-not-fitting}
+use Rattle.window_ask.proofs.ask.Goals.{After-turn_of-turn}
 use Rattle.window_ask.proofs.ask.Goals as goal
 
 -- so that the ask goes on
-fits : (c : Else-not-fitting) → Admits c.args.memory.now c.args.state.now
+fits : (c : After-turn_of-turn) → Admits c.args.memory.now c.args.state.now
 fits c = admits _ _ (sym c.fitting.ensures ∙ c.if-not-fitting.false)
 
 -- and does what its turn says
@@ -21,7 +21,7 @@ says : (c : After-turn_of-turn) {u : Turn} → c.turn_of-turn.result ≡ u → {
     → (let a = c.args in o ≡ ask_means a.memory.now a.state.now a.number a.window)
 says c e p =
     let a = c.args in
-    let go : Admits a.memory.now a.state.now = admits _ _ (sym c.fitting.ensures ∙ c.if-not-fitting.false) in
+    let go = fits c in
     let turn = turn_kept a.state.now a.number (window a.window) (admits_long _ _ go) in
     asks a.memory.now a.state.now a.number a.window go (c.turn_of-turn.ensures ∙ turn) e p
 
@@ -30,7 +30,7 @@ unfolding ask_means
 returns-then-not-fitting c = record { outcome = by13 _ _ _ (sym c.fitting.ensures ∙ c.if-not-fitting.true) }
 
 pub new_ask-requires : goal.new_ask-requires
-new_ask-requires c = admits_long _ _ (fits (goal.at.new_ask-requires c).Else-not-fitting)
+new_ask-requires c = admits_long _ _ (fits (goal.at.new_ask-requires c).After-turn_of-turn)
 
 pub returns-in-NewAsk : goal.returns-in-NewAsk
 returns-in-NewAsk c =

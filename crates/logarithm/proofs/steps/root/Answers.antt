@@ -7,9 +7,9 @@ use native.Mathlib.Nat.{le_antisymm, le_of_suc-le-suc}
 use Rattle.ground.specs.Questions.{past}
 use Rattle.logarithm.specs.Meaning.{twice_to_eighth}
 use Rattle.logarithm.specs.Eighths.{First, is_first, first_computed}
--- an arm answers the first count that reaches its power
 use Rattle.logarithm.proofs.steps.root.Goals as goal
 
+-- an arm answers the first count that reaches its power
 at : {i r : ℕ} (n : ℕ) → i ≡ n → is_first (256 + n) r ≡ true → First (256 + i) r
 at {i} {r} n e t = rw e (first_computed (256 + n) t)
 

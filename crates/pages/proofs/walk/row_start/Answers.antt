@@ -3,10 +3,10 @@
 use Prim.Native.Nat.{◌*◌, ◌<◌}
 use native.Mathlib.Omega.{arith}
 use Rattle.pages.proofs.Walking.{row_far}
--- the product is far below it
 use Rattle.pages.proofs.walk.row_start.Goals.{After-row_step-step}
 use Rattle.pages.proofs.walk.row_start.Goals as goal
 
+-- the product is far below it
 far : (c : After-row_step-step) → c.args.row * c.row_step-step.result < 4294967296
 far c = row_far c.args.row c.row_step-step.result c.requires c.row_step-step.ensures.1
 
