@@ -1,6 +1,7 @@
 pub mod Choice
 pub mod Questions
 pub mod Paper
+pub mod Refusals
 pub mod Outcome
 pub mod Greatest
 pub mod Words

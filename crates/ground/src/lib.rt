@@ -3,7 +3,27 @@
 #![tactic(auto)]
 
 ghost use Rattle.std.specs.Prelude.{◌≡◌, ◌<◌};
+ghost use Rattle.ground.specs.Paper.{number_of};
+ghost use Rattle.ground.specs.Refusals.{Refusals, on_paper};
 ghost use Rattle.ground.specs.Promise.{LiesPromise, PutPromise, WordPromise};
+
+// Why a call refuses: a refusal with its number in document 01.
+pub trait Numbered {
+    ghost refusals: { Refusals Self };
+
+    fn number(&self) -> u8
+        ensures { result ≡ refusals.number self.now };
+}
+
+// Document 01's number of what a call answered, 0 where it is accepted.
+pub fn number_of<T: Copy, E: Numbered + Copy>(answer: Result<T, E>) -> u8
+    ensures { result ≡ number_of (on_paper E.refusals answer) }
+{
+    match answer {
+        Ok(_) => 0,
+        Err(why) => why.number(),
+    }
+}
 
 // Whether so many bytes from a place on lie in the bytes.
 pub fn lies_in(bytes: &[u8], at: usize, size: usize) -> bool

@@ -1,0 +1,31 @@
+-- How an error's refusals read in document 01, and a result with them.
+-- Assumes nothing.
+use Rattle.std.specs.Prelude.{◌≡◌, refl, List, ℕ, Result, Ok, Err}
+use Rattle.std.proofs.Common.{ap}
+use Rattle.ground.specs.Paper.{Paper, accepted, refusal, one_answer}
+
+-- a refusal's number, what it carries, and the one that reads so
+pub record Refusals (E : Type 0) : Type 0 where
+  pub number : E → ℕ
+  pub carried : E → List ℕ
+  pub back : ℕ → List ℕ → E
+  pub home : (e : E) → back (number e) (carried e) ≡ e
+
+-- a result as document 01 has it: accepted with its value, or refused by its error's number
+abbrev pub on_paper : {V E : Type 0} → Refusals E → Result V E → Paper V
+on_paper rs (Ok x) = accepted x
+on_paper rs (Err e) = refusal (rs.number e) (rs.carried e)
+
+-- the result that reads so
+abbrev pub off_paper : {V E : Type 0} → Refusals E → Paper V → Result V E
+off_paper rs (accepted x) = Ok x
+off_paper rs (refusal n carried) = Err (rs.back n carried)
+
+-- a result is the one that reads as it does
+pub off_on_paper : {V E : Type 0} (rs : Refusals E) (r : Result V E) → off_paper rs (on_paper rs r) ≡ r
+off_on_paper rs (Ok x) = refl
+off_on_paper {V} {E} rs (Err e) = ap (λ (f : E). Err f) (rs.home e)
+
+-- two results that read the same on paper are the same result
+pub one_result : {V E : Type 0} (rs : Refusals E) {x y : Result V E} {p : Paper V} → on_paper rs x ≡ p → on_paper rs y ≡ p → x ≡ y
+one_result rs = one_answer (on_paper rs) (off_paper rs) (off_on_paper rs)
