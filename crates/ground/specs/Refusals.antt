@@ -2,7 +2,8 @@
 -- Assumes nothing.
 use Rattle.std.specs.Prelude.{◌≡◌, refl, List, ℕ, Result, Ok, Err}
 use Rattle.std.proofs.Common.{ap}
-use Rattle.ground.specs.Paper.{Paper, accepted, refusal, one_answer}
+use Rattle.ground.specs.Outcome.{Outcome, outcome_of, outcome_one}
+use Rattle.ground.specs.Paper.{Paper, accepted, refusal, mapped, one_answer}
 
 -- a refusal's number, what it carries, and the one that reads so
 pub record Refusals (E : Type 0) : Type 0 where
@@ -29,3 +30,23 @@ off_on_paper {V} {E} rs (Err e) = ap (λ (f : E). Err f) (rs.home e)
 -- two results that read the same on paper are the same result
 pub one_result : {V E : Type 0} (rs : Refusals E) {x y : Result V E} {p : Paper V} → on_paper rs x ≡ p → on_paper rs y ≡ p → x ≡ y
 one_result rs = one_answer (on_paper rs) (off_paper rs) (off_on_paper rs)
+
+-- one outcome of a call that answers a result: its answer, and what it leaves
+pub one_outcome : {V E L : Type 0} (rs : Refusals E) {r s : Result V E} {l m : L} {o : Outcome V L} → outcome_of (on_paper rs r) l ≡ o
+    → outcome_of (on_paper rs s) m ≡ o → (r ≡ s) × (l ≡ m)
+one_outcome rs = outcome_one (on_paper rs) (off_paper rs) (off_on_paper rs)
+
+module _ {V A E : Type 0} (rs : Refusals E) (read : V → A) (back : A → V) (home : (x : V) → back (read x) ≡ x) where
+  -- a result whose value document 01 reads in its own words is the one that reads as it does
+  pub off_on_paper_as : (r : Result V E) → off_paper rs (mapped back (mapped read (on_paper rs r))) ≡ r
+  off_on_paper_as (Ok x) = ap (λ (y : V). Ok y) (home x)
+  off_on_paper_as (Err e) = off_on_paper rs (Err e)
+
+  -- two such results that read the same are the same result
+  pub one_result_as : {x y : Result V E} {p : Paper A} → mapped read (on_paper rs x) ≡ p → mapped read (on_paper rs y) ≡ p → x ≡ y
+  one_result_as = one_answer (λ (r : Result V E). mapped read (on_paper rs r)) (λ (p : Paper A). off_paper rs (mapped back p)) off_on_paper_as
+
+  -- and one outcome of a call that answers such a result
+  pub one_outcome_as : {L : Type 0} {r s : Result V E} {l m : L} {o : Outcome A L} → outcome_of (mapped read (on_paper rs r)) l ≡ o
+      → outcome_of (mapped read (on_paper rs s)) m ≡ o → (r ≡ s) × (l ≡ m)
+  one_outcome_as = outcome_one (λ (r : Result V E). mapped read (on_paper rs r)) (λ (p : Paper A). off_paper rs (mapped back p)) off_on_paper_as
