@@ -8,17 +8,19 @@ use mathlib.Core.Path.{◌≡◌, sym, ap, subst, ◌∙◌}
 use mathlib.Core.Bool.{not}
 use mathlib.Core.List.{List}
 use Prim.Native.Nat.{ℕ}
+use Rattle.std.specs.Prelude.{Result, Ok, Err}
 use lib.Dec.{T}
 use lib.ListN.{get_or}
 use mir.Val.{has_key}
 use types.Run.{OneOf, miss}
 use Rattle.ground.specs.Outcome.{Outcome, outcome_of}
 use Rattle.ground.specs.Paper.{Paper, accepted, refusal, refused, number_of}
+use Rattle.ground.specs.Refusals.{Refusals, on_paper}
 use Rattle.code.specs.contracts.Refusal.{the_type}
 use Rattle.code.specs.Answers.{refusal_carries}
 use Rattle.code.specs.declared.Refusal.{Refusal}
 use Rattle.code.specs.declared.Refusal.TheVariants.{OutsideRule, RanOut, RedundantZero, RunTooLong}
-use Rattle.plavotesk.specs.Meaning.{carried_to, told_as, told_missing, told_with}
+use Rattle.plavotesk.specs.Meaning.{carried_to, told, told_as, told_missing, told_with}
 use Rattle.plavotesk.specs.Promise.{Sentence}
 
 -- what is told, with the memory that the call leaves
@@ -102,3 +104,14 @@ module _ {Holds : Paper ℕ → Type 0} (held : ℕ) {R : Type 0} (paper : R →
 
   pub refuses_so : {a s : R} {m n : ℕ} → Holds (paper a) → a ≡ s → paper s ≡ refused m → n ≡ number_of (paper a) → Sentence Holds held (n, held)
   refuses_so {a} h e r k = record { answer = paper a; holds = h; outcome = refuses_as _ held paper refl e r k }
+
+module _ {V E : Type 0} (rs : Refusals E) (held : V) {answer : Result V E} where
+  -- an answer that was accepted is told by 0, and its place holds the value
+  pub told_ok : {value : V} → answer ≡ Ok value → ◌≡◌ {A = ℕ × V} (0, value) (told (on_paper rs answer) held)
+  unfolding told_as
+  told_ok e = ap (λ (r : Result V E). told (on_paper rs r) held) (sym e)
+
+  -- one that was refused is told by its number, and its place keeps what it held
+  pub told_err : {why : E} → answer ≡ Err why → ◌≡◌ {A = ℕ × V} (rs.number why, held) (told (on_paper rs answer) held)
+  unfolding told_as
+  told_err e = ap (λ (r : Result V E). told (on_paper rs r) held) (sym e)
