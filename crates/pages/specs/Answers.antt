@@ -1,77 +1,51 @@
--- The paper of each answer: document 01's number and values for each case, and the way back.
+-- Each answer as document 01 has it, and the refusals' numbers.
 -- Assumes nothing.
-use Rattle.std.specs.Prelude.{◌≡◌, refl, ℕ, eqb}
+use Rattle.std.specs.Prelude.{refl, [], ℕ, eqb, Result}
 use Rattle.ground.specs.Choice.{pick}
-use Rattle.ground.specs.Paper.{Paper, accepted, refusal, refused}
-use Rattle.pages.specs.declared.CountAnswer.{CountAnswer}
-use Rattle.pages.specs.declared.Checked.{Checked}
-use Rattle.pages.specs.declared.Passed.{Passed}
-use Rattle.pages.specs.declared.Taken.{Taken}
+use Rattle.ground.specs.Paper.{Paper}
+use Rattle.ground.specs.Refusals.{Refusals, on_paper}
+use Rattle.pages.specs.declared.NotCounted.{NotCounted}
+use Rattle.pages.specs.declared.NotCounted.TheVariants as counting
+use Rattle.pages.specs.declared.NotTaken.{NotTaken}
+use Rattle.pages.specs.declared.NotTaken.TheVariants.{WrongCell, AboveFull}
+use Rattle.pages.specs.declared.WrongCell as cell
+
+-- a particle that is not counted: 14, 15, 16
+abbrev pub not_counted : Refusals NotCounted
+not_counted =
+    record {
+      number = elim [ counting.WrongAddress ↦ 14 | counting.Full ↦ 15 | counting.AboveFull ↦ 16 ];
+      carried = λ why. [];
+      back = λ n carried. pick (eqb n 14) counting.WrongAddress (pick (eqb n 15) counting.Full counting.AboveFull);
+      home = elim [ counting.WrongAddress ↦ refl | counting.Full ↦ refl | counting.AboveFull ↦ refl ];
+    }
+
+-- a window that is not taken: 14, 16
+abbrev pub not_taken : Refusals NotTaken
+not_taken =
+    record {
+      number = elim [ WrongCell ↦ 14 | AboveFull ↦ 16 ];
+      carried = λ why. [];
+      back = λ n carried. pick (eqb n 14) WrongCell AboveFull;
+      home = elim [ WrongCell ↦ refl | AboveFull ↦ refl ];
+    }
+
+-- a window that is not gone over: 14
+abbrev pub wrong_cell : Refusals cell.WrongCell
+wrong_cell = record { number = λ why. 14; carried = λ why. []; back = λ n carried. record {}; home = λ why. refl }
 
 -- counting: done, or 14, 15, 16
-abbrev pub count_paper : CountAnswer → Paper (Unit {0})
-count_paper CountAnswer.Counted = accepted tt
-count_paper CountAnswer.WrongAddress = refused 14
-count_paper CountAnswer.Full = refused 15
-count_paper CountAnswer.AboveFull = refused 16
-
--- the way back from counting's paper
-abbrev pub count_back : Paper (Unit {0}) → CountAnswer
-count_back (accepted x) = CountAnswer.Counted
-count_back (refusal n carried) = pick (eqb n 14) CountAnswer.WrongAddress (pick (eqb n 15) CountAnswer.Full CountAnswer.AboveFull)
-
--- there and back is where it began
-pub count_home : (a : CountAnswer) → count_back (count_paper a) ≡ a
-count_home CountAnswer.Counted = refl
-count_home CountAnswer.WrongAddress = refl
-count_home CountAnswer.Full = refl
-count_home CountAnswer.AboveFull = refl
+abbrev pub count_paper : Result (Unit {0}) NotCounted → Paper (Unit {0})
+count_paper = on_paper not_counted
 
 -- checking a window: sound, or 14, 16
-abbrev pub checked_paper : Checked → Paper (Unit {0})
-checked_paper Checked.Sound = accepted tt
-checked_paper Checked.WrongCell = refused 14
-checked_paper Checked.AboveFull = refused 16
-
--- the way back from checking's paper
-abbrev pub checked_back : Paper (Unit {0}) → Checked
-checked_back (accepted x) = Checked.Sound
-checked_back (refusal n carried) = pick (eqb n 14) Checked.WrongCell Checked.AboveFull
-
--- there and back is where it began
-pub checked_home : (a : Checked) → checked_back (checked_paper a) ≡ a
-checked_home Checked.Sound = refl
-checked_home Checked.WrongCell = refl
-checked_home Checked.AboveFull = refl
+abbrev pub checked_paper : Result (Unit {0}) NotTaken → Paper (Unit {0})
+checked_paper = on_paper not_taken
 
 -- taking a window: its sum, or 14, 16
-abbrev pub taken_paper : Taken → Paper ℕ
-taken_paper (Taken.Sum sum) = accepted sum
-taken_paper Taken.WrongCell = refused 14
-taken_paper Taken.AboveFull = refused 16
-
--- the way back from taking's paper
-abbrev pub taken_back : Paper ℕ → Taken
-taken_back (accepted sum) = Taken.Sum sum
-taken_back (refusal n carried) = pick (eqb n 14) Taken.WrongCell Taken.AboveFull
-
--- there and back is where it began
-pub taken_home : (a : Taken) → taken_back (taken_paper a) ≡ a
-taken_home (Taken.Sum sum) = refl
-taken_home Taken.WrongCell = refl
-taken_home Taken.AboveFull = refl
+abbrev pub taken_paper : Result ℕ NotTaken → Paper ℕ
+taken_paper = on_paper not_taken
 
 -- going over a window: the sum of what was seen, or 14
-abbrev pub passed_paper : Passed → Paper ℕ
-passed_paper (Passed.Sum sum) = accepted sum
-passed_paper Passed.WrongCell = refused 14
-
--- the way back from going over's paper
-abbrev pub passed_back : Paper ℕ → Passed
-passed_back (accepted sum) = Passed.Sum sum
-passed_back (refusal n carried) = Passed.WrongCell
-
--- there and back is where it began
-pub passed_home : (a : Passed) → passed_back (passed_paper a) ≡ a
-passed_home (Passed.Sum sum) = refl
-passed_home Passed.WrongCell = refl
+abbrev pub passed_paper : Result ℕ cell.WrongCell → Paper ℕ
+passed_paper = on_paper wrong_cell

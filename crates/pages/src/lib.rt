@@ -5,8 +5,10 @@ mod layout;
 mod passes;
 mod walk;
 
+ghost use Rattle.pages.specs.Answers.{not_counted, not_taken, wrong_cell};
 ghost use Rattle.pages.specs.Promise.{SizedPromise, ClearPromise, CountPromise, CheckPromise, TakePromise, PassPromise};
 
+use ground::Numbered;
 use layout::place;
 use passes::flags_of;
 use walk::{last_cell, sound_rows, walk_window};
@@ -21,29 +23,54 @@ pub struct Window {
     pub clear: bool,
 }
 
-// What counting answers.
-#[derive(Clone, Copy)]
-pub enum CountAnswer {
-    Counted,
+// Why a particle is not counted.
+#[derive(Clone, Copy, Debug, PartialEq, Eq)]
+pub enum NotCounted {
     WrongAddress,
     Full,
     AboveFull,
 }
 
-// What taking a window answers: the sum of its cells, or why not.
-#[derive(Clone, Copy)]
-pub enum Taken {
-    Sum(u64),
+// Why a window is not taken.
+#[derive(Clone, Copy, Debug, PartialEq, Eq)]
+pub enum NotTaken {
     WrongCell,
     AboveFull,
 }
 
-// What checking a window answers.
-#[derive(Clone, Copy)]
-pub enum Checked {
-    Sound,
-    WrongCell,
-    AboveFull,
+// A window whose last cell lies past the page.
+#[derive(Clone, Copy, Debug, PartialEq, Eq)]
+pub struct WrongCell;
+
+impl Numbered for NotCounted {
+    ghost refusals = { not_counted };
+
+    fn number(&self) -> u8 {
+        match self {
+            NotCounted::WrongAddress => 14,
+            NotCounted::Full => 15,
+            NotCounted::AboveFull => 16,
+        }
+    }
+}
+
+impl Numbered for NotTaken {
+    ghost refusals = { not_taken };
+
+    fn number(&self) -> u8 {
+        match self {
+            NotTaken::WrongCell => 14,
+            NotTaken::AboveFull => 16,
+        }
+    }
+}
+
+impl Numbered for WrongCell {
+    ghost refusals = { wrong_cell };
+
+    fn number(&self) -> u8 {
+        14
+    }
 }
 
 // What is done to each word of a window: kept or set to 0; on trial looked at, marked, or a mark taken away, or a marked word set to 0.
@@ -63,13 +90,6 @@ struct Flags {
     trial: bool,
     clear: bool,
     settle: bool,
-}
-
-// What going over a window answers: the sum of what was seen, or why not.
-#[derive(Clone, Copy)]
-pub enum Passed {
-    Sum(u64),
-    WrongCell,
 }
 
 // The count at which a word is full and stays.
@@ -103,67 +123,61 @@ pub fn clear(memory: &mut [u32])
 }
 
 // Adds 1 to the word at an address of a page.
-pub fn count(memory: &mut [u32], second: bool, address: u32) -> CountAnswer
+pub fn count(memory: &mut [u32], second: bool, address: u32) -> Result<(), NotCounted>
     ensures { CountPromise memory.old second address result memory.new }
 {
     let words = memory.len();
     if words / 2 <= address as usize {
-        return CountAnswer::WrongAddress;
+        return Err(NotCounted::WrongAddress);
     }
     let at = place(words, second, address as usize);
     let word = memory[at];
     if FULL < word {
-        return CountAnswer::AboveFull;
+        return Err(NotCounted::AboveFull);
     }
     if word == FULL {
-        return CountAnswer::Full;
+        return Err(NotCounted::Full);
     }
     memory[at] = word + 1;
-    CountAnswer::Counted
+    Ok(())
 }
 
 // Sums the cells of a window of a page in order, each set to 0 at once where the window clears.
-pub fn take(memory: &mut [u32], second: bool, window: Window) -> Taken
+pub fn take(memory: &mut [u32], second: bool, window: Window) -> Result<u64, NotTaken>
     ensures { TakePromise memory.old second window result memory.new }
 {
-    let checked = check(memory, second, window);
-    match checked {
-        Checked::Sound => Taken::Sum(walk_window(
-            memory,
-            second,
-            false,
-            window.clear,
-            false,
-            window,
-        )),
-        Checked::WrongCell => Taken::WrongCell,
-        Checked::AboveFull => Taken::AboveFull,
-    }
+    check(memory, second, window)?;
+    Ok(walk_window(memory, second, false, window.clear, false, window))
 }
 
 // Whether a window of a page may be taken: its last cell inside the page, and none of its words above full.
-pub fn check(memory: &[u32], second: bool, window: Window) -> Checked
+pub fn check(memory: &[u32], second: bool, window: Window) -> Result<(), NotTaken>
     ensures { CheckPromise memory.now second window result }
 {
     if memory.len() / 2 <= last_cell(window) {
-        return Checked::WrongCell;
+        return Err(NotTaken::WrongCell);
     }
     if !sound_rows(memory, second, window) {
-        return Checked::AboveFull;
+        return Err(NotTaken::AboveFull);
     }
-    Checked::Sound
+    Ok(())
 }
 
 // Goes over the cells of a window of a page in order, does to each what the pass says, and answers the sum of what was seen.
-pub fn go_over(memory: &mut [u32], second: bool, rule: Pass, window: Window) -> Passed
+pub fn go_over(
+    memory: &mut [u32],
+    second: bool,
+    rule: Pass,
+    window: Window,
+) -> Result<u64, WrongCell>
     ensures { PassPromise memory.old second rule window result memory.new }
 {
     let words = memory.len();
     if words / 2 <= last_cell(window) {
-        return Passed::WrongCell;
+        return Err(WrongCell);
     }
     let flags = flags_of(rule);
-    Passed::Sum(walk_window(
+    Ok(walk_window(
         memory,
         second,
         flags.trial,

@@ -1,27 +1,17 @@
 -- `pages::take` meets its contract. Each return is what the check says.
 -- Assumes nothing.
-use mathlib.Core.Path.{refl}
-use Rattle.pages.proofs.Taking.{check_says, not_taken, walked}
+use mathlib.Core.Path.{sym}
+use Rattle.std.proofs.lemmas.Result.{err_from_is_err_and}
+use Rattle.pages.proofs.Taking.{left_alone, walked}
 use Rattle.pages.specs.Outcomes.{checked_inside}
 use Rattle.pages.proofs.take.Goals as goal
 
 pub walk_window-requires : goal.walk_window-requires
-walk_window-requires c =
-    let a = c.args in
-    (checked_inside a.memory.now a.second a.window (check_says _ _ _ c.check-checked.ensures c.in-Sound.is)).0
+walk_window-requires c = (checked_inside _ _ _ (sym c.in_ok-check.ensures.answer)).0
 
-pub returns-in-Sound : goal.returns-in-Sound
-returns-in-Sound c =
-    let a = c.args in
-    walked a.memory.now a.second a.window _ _ (check_says _ _ _ c.check-checked.ensures c.in-Sound.is)
-    c.walk_window.ensures.result_after
+pub returns-in_err-check : goal.returns-in_err-check
+returns-in_err-check c =
+    let p = err_from_is_err_and c.from_residual.result c.from_residual.ensures.1 in rw (p.1, p.2) (left_alone _ _ _ c.in_err-check.ensures)
 
-pub returns-in-WrongCell : goal.returns-in-WrongCell
-returns-in-WrongCell c =
-    let a = c.args in
-    not_taken a.memory.now a.second a.window _ (check_says _ _ _ c.check-checked.ensures c.in-WrongCell.is) refl
-
-pub returns-in-AboveFull : goal.returns-in-AboveFull
-returns-in-AboveFull c =
-    let a = c.args in
-    not_taken a.memory.now a.second a.window _ (check_says _ _ _ c.check-checked.ensures c.in-AboveFull.is) refl
+pub returns : goal.returns
+returns c = walked _ _ _ _ _ (sym c.in_ok-check.ensures.answer) c.walk_window.ensures.result_after
