@@ -4,7 +4,8 @@ use mathlib.Core.Path.{◌≡◌, refl, sym, ap, ap₂, ◌∙◌}
 use mathlib.Core.Bool.{Bool, true, false}
 use mathlib.Core.List.{List, []}
 use Prim.Native.Nat.{ℕ, ◌+◌, ◌-◌, ◌<◌, ◌≤◌, zero-le}
-use native.Mathlib.Nat.{sub-zero}
+use Rattle.std.specs.Prelude.{Ok, Err}
+use native.Mathlib.Nat.{sub-zero, le_antisymm}
 use native.Mathlib.Omega.{arith}
 use borrow.Author.Tests.{lt-ltb, le-ltb}
 use denote.Ref.{Bor}
@@ -13,8 +14,8 @@ use Rattle.ground.specs.Choice.{pick}
 use Rattle.ground.specs.Paper.{accepted, refused_with}
 use Rattle.packet.specs.Meaning.{stands, failed_before, find_from, find_means, header_means, apid_at, data_length, handed, payload_means, payload_start}
 use Rattle.packet.specs.Laws.{find_on, find_here, find_none, failed_more}
-use Rattle.packet.specs.declared.Found.TheVariants as F
-use Rattle.packet.specs.declared.Headed.TheVariants as H
+use Rattle.packet.specs.declared.NotFound.TheVariants as F
+use Rattle.packet.specs.declared.NoHeader.TheVariants as H
 use Rattle.packet.specs.Promise.{FindPromise, HeaderPromise, PayloadPromise}
 
 -- the places before one are settled: none of them held a packet
@@ -33,13 +34,13 @@ passed_more {l} {at} p h e =
     record { within = omega arith; rest = p.rest ∙ find_on l at h e; failed = failed_more l at e p.failed }
 
 -- a capture that is too long
-pub too_long : {l : List ℕ} → 65536 < length l → FindPromise l F.TooLong
+pub too_long : {l : List ℕ} → 65536 < length l → FindPromise l (Err F.TooLong)
 unfolding find_means
 too_long {l} h = record { answer = rw (lt-ltb 65536 (length l) h) }
 
 -- the first packet
 pub here : {l : List ℕ} {at : ℕ} → length l ≤ 65536 → Passed l at → at < length l → stands l at ≡ true
-    → FindPromise l (F.At at at)
+    → FindPromise l (Ok (record { place = at; skipped = at }))
 unfolding find_means
 here {l} {at} n p h e =
     record {
@@ -48,25 +49,26 @@ here {l} {at} n p h e =
     }
 
 -- no packet
-pub nowhere : {l : List ℕ} {at : ℕ} → length l ≤ 65536 → Passed l at → length l ≤ at → FindPromise l (F.Nothing at)
+pub nowhere : {l : List ℕ} {at : ℕ} → length l ≤ 65536 → Passed l at → length l ≤ at → FindPromise l (Err (F.Nothing (length l)))
 unfolding find_means
 nowhere {l} {at} n p h =
-    record { answer = rw (le-ltb 65536 (length l) n) (ap (refused_with 20) (sym p.failed) ∙ sym (p.rest ∙ find_none l at h)) }
+    let all : length l ≡ at = le_antisymm h p.within in
+    record { answer = rw (le-ltb 65536 (length l) n) (ap (refused_with 20) (all ∙ sym p.failed) ∙ sym (p.rest ∙ find_none l at h)) }
 
 -- the header of a capture that is too long
-pub header_long : {l : List ℕ} {at : ℕ} → 65536 < length l → HeaderPromise l at H.TooLong
+pub header_long : {l : List ℕ} {at : ℕ} → 65536 < length l → HeaderPromise l at (Err H.TooLong)
 unfolding header_means
 header_long {l} h = record { answer = rw (lt-ltb 65536 (length l) h) }
 
 -- where a packet stands
 pub header_here : {l : List ℕ} {at apid n : ℕ} → length l ≤ 65536 → stands l at ≡ true → apid ≡ apid_at l at → n ≡ data_length l at
-    → HeaderPromise l at (H.Packet apid n)
+    → HeaderPromise l at (Ok (record { apid = apid; length = n }))
 unfolding header_means
 header_here {l} fits e a n =
     record { answer = rw (le-ltb 65536 (length l) fits, e) (ap₂ (λ (x y : ℕ). accepted (record { apid = x; length = y })) a n) }
 
 -- where none stands
-pub header_none : {l : List ℕ} {at : ℕ} → length l ≤ 65536 → stands l at ≡ false → HeaderPromise l at H.NoPacket
+pub header_none : {l : List ℕ} {at : ℕ} → length l ≤ 65536 → stands l at ≡ false → HeaderPromise l at (Err H.NoPacket)
 unfolding header_means
 header_none {l} n e = record { answer = rw (le-ltb 65536 (length l) n, e) }
 

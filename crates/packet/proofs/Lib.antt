@@ -1,4 +1,3 @@
 pub mod Standing
 pub mod Finding
-pub mod Copying
 pub mod Writing

@@ -8,12 +8,13 @@ use native.Mathlib.Omega.{arith}
 use borrow.Author.Tests.{lt-ltb, le-ltb}
 use borrow.Rule.Slice.PartMut.{put_mid, Post-is}
 use lib.ListN.{length, drop}
+use Rattle.std.specs.Prelude.{Ok, Err}
 use lib.Seq.{take_at, drop_at, drop-drop}
 use Rattle.ground.specs.Outcome.{accept}
 use Rattle.crc.specs.Promise.{SealPromise}
 use Rattle.crc.specs.Sealing.{seal_front}
 use Rattle.packet.specs.Meaning.{covered, packet_of, write_means}
-use Rattle.packet.specs.declared.Written.TheVariants as W
+use Rattle.packet.specs.declared.NotWritten.TheVariants as W
 use Rattle.packet.specs.Promise.{WritePromise}
 use Rattle.packet.specs.Putting.{head_of}
 use Rattle.packet.specs.ReadBack.{covered-length}
@@ -36,12 +37,12 @@ filled buffer apid payload p q =
 
 module _ {buffer : List ℕ} {apid : ℕ} {payload : List ℕ} where
   -- more data than a packet takes
-  pub too_much : 8187 < length payload → WritePromise buffer apid payload W.TooMuchData buffer
+  pub too_much : 8187 < length payload → WritePromise buffer apid payload (Err W.TooMuchData) buffer
   unfolding write_means
   too_much h = record { outcome = rw (lt-ltb 8187 (length payload) h) }
 
   -- a buffer that is too short
-  pub too_short : length payload ≤ 8187 → length buffer < length payload + 10 → WritePromise buffer apid payload W.BufferTooShort buffer
+  pub too_short : length payload ≤ 8187 → length buffer < length payload + 10 → WritePromise buffer apid payload (Err W.BufferTooShort) buffer
   unfolding write_means
   too_short g h = record { outcome = rw (le-ltb 8187 (length payload) g, lt-ltb (length buffer) (length payload + 10) h) }
 
@@ -49,7 +50,7 @@ module _ {buffer : List ℕ} {apid : ℕ} {payload : List ℕ} where
   pub done : {head part after : List ℕ} → length payload ≤ 8187 → length payload + 10 ≤ length buffer
       → head ≡ head_of (length payload + 4) apid ++ drop 8 buffer → part ≡ payload
       → SealPromise (put_mid 8 (length payload + 8 - 8) head part) (length payload + 8) after
-      → WritePromise buffer apid payload (W.Bytes (length payload + 10)) after
+      → WritePromise buffer apid payload (Ok (length payload + 10)) after
   unfolding write_means packet_of
   done {after = after} g h p q s =
       let n = length payload in

@@ -1,10 +1,11 @@
 -- The data and the header say the same: "where that refuses, the part is empty".
 -- Assumes nothing.
-use Rattle.std.specs.Prelude.{◌≡◌, refl, Bool, true, false, not, ◌&&◌, List, [], ℕ, ◌+◌, length, take, drop}
+use Rattle.std.specs.Prelude.{◌≡◌, refl, Bool, true, false, not, ◌&&◌, List, [], ℕ, ◌+◌, length, take, drop, Result}
 use Rattle.std.specs.Borrow.{Bor}
 use Rattle.ground.specs.Choice.{pick}
 use Rattle.ground.specs.Paper.{Paper, accepted, refusal, refused}
 use Rattle.packet.specs.declared.Headed.{Headed}
+use Rattle.packet.specs.declared.NoHeader.{NoHeader}
 use Rattle.packet.specs.Answers.{headed_paper}
 use Rattle.packet.specs.Promise.{HeaderPromise, PayloadPromise}
 use Rattle.packet.specs.Meaning.{too_long, stands, data_length, apid_at, header_means, payload_means, payload_start, HeaderValues}
@@ -30,7 +31,7 @@ unfolding header_means payload_means payload_start
 agrees l at = agrees_by l at (too_long l) (stands l at) refl refl
 
 -- of one capture and place, whatever `header` and `payload` answer: the part is as the header's answer says
-pub header_payload : {capture : Bor (List ℕ)} {at : ℕ} {h : Headed} {r : Bor (List ℕ)}
+pub header_payload : {capture : Bor (List ℕ)} {at : ℕ} {h : Result Headed NoHeader} {r : Bor (List ℕ)}
     → HeaderPromise capture.now at h → PayloadPromise capture at r
     → (start : ℕ) × (r.ref_ptr.1 ≡ capture.ref_ptr.1 + start) × Agrees (headed_paper h) r.now start at
 header_payload {capture} {at} p q = (

@@ -5,71 +5,113 @@
 mod parts;
 
 ghost use Rattle.std.specs.Prelude.{◌≡◌, ◌+◌};
-ghost use Rattle.ground.specs.Paper.{number_of};
-ghost use Rattle.packet.specs.Answers.{found_paper, headed_paper, written_paper};
+ghost use Rattle.packet.specs.Answers.{not_found, no_header, not_written};
 ghost use Rattle.packet.specs.Promise.{FindPromise, HeaderPromise, PayloadPromise, WritePromise};
 
-use ground::word_at;
-use parts::{copied, data_length, put_header, stands_at};
+use ground::{Numbered, word_at};
+use parts::{data_length, put_header, stands_at};
 
-// What finding answers: the first packet's place and the bytes skipped before it; no packet, with the bytes skipped; a
-// capture of more than 65,536 bytes.
-#[derive(Clone, Copy)]
-pub enum Found {
-    At { place: usize, skipped: usize },
+// A packet that was found: its place, and the bytes skipped before it.
+#[derive(Clone, Copy, Debug, PartialEq, Eq)]
+pub struct Found {
+    pub place: usize,
+    pub skipped: usize,
+}
+
+// Why no packet is found: none stands in the capture, with all its bytes skipped; the capture is longer than 65,536 bytes.
+#[derive(Clone, Copy, Debug, PartialEq, Eq)]
+pub enum NotFound {
     Nothing { skipped: usize },
     TooLong,
 }
 
-// What a packet's header says: its APID and the bytes of data; no packet stands there; the capture is too long.
-#[derive(Clone, Copy)]
-pub enum Headed {
-    Packet { apid: u16, length: u16 },
+impl Numbered for NotFound {
+    ghost refusals = { not_found };
+
+    fn number(&self) -> u8 {
+        match *self {
+            NotFound::Nothing { skipped: _ } => 20,
+            NotFound::TooLong => 1,
+        }
+    }
+}
+
+// What a packet's header says: its APID, and the bytes of data.
+#[derive(Clone, Copy, Debug, PartialEq, Eq)]
+pub struct Headed {
+    pub apid: u16,
+    pub length: u16,
+}
+
+// Why there is no header: no packet stands there; the capture is too long.
+#[derive(Clone, Copy, Debug, PartialEq, Eq)]
+pub enum NoHeader {
     NoPacket,
     TooLong,
 }
 
-// What writing answers: the bytes written; more than 8,187 bytes of data; a buffer that is too short.
-#[derive(Clone, Copy)]
-pub enum Written {
-    Bytes(usize),
+impl Numbered for NoHeader {
+    ghost refusals = { no_header };
+
+    fn number(&self) -> u8 {
+        match *self {
+            NoHeader::NoPacket => 20,
+            NoHeader::TooLong => 1,
+        }
+    }
+}
+
+// Why no packet is written: more than 8,187 bytes of data; a buffer that is too short.
+#[derive(Clone, Copy, Debug, PartialEq, Eq)]
+pub enum NotWritten {
     TooMuchData,
     BufferTooShort,
 }
 
+impl Numbered for NotWritten {
+    ghost refusals = { not_written };
+
+    fn number(&self) -> u8 {
+        match *self {
+            NotWritten::TooMuchData => 2,
+            NotWritten::BufferTooShort => 3,
+        }
+    }
+}
+
 // The first place of the capture where a packet stands, and the bytes skipped before it.
-pub fn find(capture: &[u8]) -> Found
+pub fn find(capture: &[u8]) -> Result<Found, NotFound>
     ensures { FindPromise capture.now result }
 {
     if 65536 < capture.len() {
-        return Found::TooLong;
+        return Err(NotFound::TooLong);
     }
-    let mut place = 0;
-    while place < capture.len() {
+    for place in 0..capture.len() {
         if stands_at(capture, place) {
-            return Found::At {
+            return Ok(Found {
                 place,
                 skipped: place,
-            };
+            });
         }
-        place += 1;
     }
-    Found::Nothing { skipped: place }
+    Err(NotFound::Nothing {
+        skipped: capture.len(),
+    })
 }
 
 // The APID and the number of data bytes of the packet at a place.
-pub fn header(capture: &[u8], place: usize) -> Headed
+pub fn header(capture: &[u8], place: usize) -> Result<Headed, NoHeader>
     ensures { HeaderPromise capture.now place result }
 {
     if 65536 < capture.len() {
-        return Headed::TooLong;
+        return Err(NoHeader::TooLong);
     }
     if stands_at(capture, place) {
         let length = data_length(capture, place);
         let apid = word_at(capture, place + 6);
-        Headed::Packet { apid, length }
+        Ok(Headed { apid, length })
     } else {
-        Headed::NoPacket
+        Err(NoHeader::NoPacket)
     }
 }
 
@@ -90,55 +132,19 @@ pub fn payload<'a>(capture: &'a [u8], place: usize) -> &'a [u8]
 }
 
 // Writes the packet of an APID and data at the front of the buffer, and answers its bytes.
-pub fn write(buffer: &mut [u8], apid: u16, payload: &[u8]) -> Written
+pub fn write(buffer: &mut [u8], apid: u16, payload: &[u8]) -> Result<usize, NotWritten>
     ensures { WritePromise buffer.old apid payload.now result buffer.new }
 {
     let n = payload.len();
     if 8187 < n {
-        return Written::TooMuchData;
+        return Err(NotWritten::TooMuchData);
     }
     if buffer.len() < n + 10 {
-        return Written::BufferTooShort;
+        return Err(NotWritten::BufferTooShort);
     }
     put_header(buffer, (n + 4) as u16, apid);
     let end = n + 8;
-    copied(&mut buffer[8..end], payload);
+    buffer[8..end].copy_from_slice(payload);
     crc::seal(buffer, end);
-    Written::Bytes(n + 10)
-}
-
-// The refusal number of finding, 0 where a packet was found.
-pub fn found_number(answer: Found) -> u8
-    ensures { result ≡ number_of (found_paper answer) }
-{
-    match answer {
-        Found::At {
-            place: _,
-            skipped: _,
-        } => 0,
-        Found::Nothing { skipped: _ } => 20,
-        Found::TooLong => 1,
-    }
-}
-
-// The refusal number of a header, 0 where a packet stands.
-pub fn headed_number(answer: Headed) -> u8
-    ensures { result ≡ number_of (headed_paper answer) }
-{
-    match answer {
-        Headed::Packet { apid: _, length: _ } => 0,
-        Headed::NoPacket => 20,
-        Headed::TooLong => 1,
-    }
-}
-
-// The refusal number of writing, 0 where the packet was written.
-pub fn written_number(answer: Written) -> u8
-    ensures { result ≡ number_of (written_paper answer) }
-{
-    match answer {
-        Written::Bytes(_) => 0,
-        Written::TooMuchData => 2,
-        Written::BufferTooShort => 3,
-    }
+    Ok(n + 10)
 }

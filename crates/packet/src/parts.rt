@@ -60,15 +60,3 @@ pub(crate) fn put_header(buffer: &mut [u8], word: u16, apid: u16)
     put_word(buffer, 4, word);
     put_word(buffer, 6, apid);
 }
-
-// Copies the data over a part of the buffer that is as long.
-pub(crate) fn copied(part: &mut [u8], payload: &[u8])
-    requires { length part.old ≡ length payload.now }
-    ensures { part.new ≡ payload.now }
-{
-    let mut i = 0;
-    while i < payload.len() {
-        part[i] = payload[i];
-        i += 1;
-    }
-}
