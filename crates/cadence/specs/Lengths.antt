@@ -1,11 +1,10 @@
 -- What callers use of the lengths: each is a whole number of seconds from 1 to 3600, and `seconds` answers it for every level.
 -- Assumes nothing.
-use Rattle.std.specs.Prelude.{◌≡◌, refl, List, [], ◌∷◌, ℕ, zero, suc, ◌≤◌, ◌<◌, length, get_or}
+use Rattle.std.specs.Prelude.{◌≡◌, refl, List, [], ◌∷◌, ℕ, zero, suc, ◌≤◌, ◌<◌, length, get_or, Result, Ok, Err}
 use Rattle.std.proofs.Common.{◌∙◌, not-suc-le-zero, le_of_suc-le-suc, arith, lt-ltb, le-ltb}
-use Rattle.ground.specs.Paper.{one_answer}
-use Rattle.cadence.specs.declared.Length.{Length}
-use Rattle.cadence.specs.declared.Length.TheVariants.{Seconds}
-use Rattle.cadence.specs.Answers.{length_paper, length_back, length_home}
+use Rattle.ground.specs.Refusals.{one_result}
+use Rattle.cadence.specs.declared.OutOfRange.{OutOfRange}
+use Rattle.cadence.specs.Answers.{out_of_range}
 use Rattle.cadence.specs.Meaning.{lengths, length_of}
 use Rattle.cadence.specs.Promise.{SecondsPromise}
 
@@ -30,9 +29,9 @@ pub lasts : (level : ℕ) → level ≤ 7 → Lasts level
 lasts level h = let p = entry lengths (omega arith) level (omega arith) in record { some = p.0; hour = p.1 }
 
 -- up to level 7 the length is given
-pub seconds_given : {level : ℕ} {r : Length} → level ≤ 7 → SecondsPromise level r → r ≡ Seconds (length_of level)
-seconds_given {level} h p = one_answer length_paper length_back length_home (p.answer ∙ rw (le-ltb 7 level h)) refl
+pub seconds_given : {level : ℕ} {r : Result ℕ OutOfRange} → level ≤ 7 → SecondsPromise level r → r ≡ Ok (length_of level)
+seconds_given {level} h p = one_result out_of_range (p.answer ∙ rw (le-ltb 7 level h)) refl
 
 -- over level 7 it is refused
-pub seconds_refused : {level : ℕ} {r : Length} → 7 < level → SecondsPromise level r → r ≡ Length.OutOfRange
-seconds_refused {level} h p = one_answer length_paper length_back length_home (p.answer ∙ rw (lt-ltb 7 level h)) refl
+pub seconds_refused : {level : ℕ} {r : Result ℕ OutOfRange} → 7 < level → SecondsPromise level r → r ≡ Err (record {})
+seconds_refused {level} h p = one_result out_of_range (p.answer ∙ rw (lt-ltb 7 level h)) refl

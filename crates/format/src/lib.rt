@@ -87,8 +87,7 @@ pub fn int24_code(count: u64) -> Result<u32, TooLarge>
     if (LAST24 as u64) < count {
         return Err(TooLarge);
     }
-    let code = count as u32;
-    Ok(code)
+    Ok(count as u32)
 }
 
 // The count that a 24-bit integer means: the code itself.

@@ -1,38 +1,39 @@
 -- A logarithm byte and its counts are one relation: the calls, one after the other.
 -- Assumes nothing.
-use Rattle.std.specs.Prelude.{◌≡◌, refl, ℕ, ◌≤◌}
+use Rattle.std.specs.Prelude.{◌≡◌, refl, ℕ, ◌≤◌, Option, Some, None, Result, Ok}
 use Rattle.std.proofs.Common.{le_refl}
-use Rattle.ground.specs.Paper.{accepted, one_answer}
-use Rattle.logarithm.specs.declared.Log8Code.{Log8Code}
-use Rattle.logarithm.specs.declared.Log8Counts.{Log8Counts}
-use Rattle.logarithm.specs.Answers.{log8_code_paper, log8_code_back, log8_code_home, log8_counts_paper}
+use Rattle.ground.specs.Paper.{accepted}
+use Rattle.ground.specs.Refusals.{one_result}
+use Rattle.format.specs.declared.TooLarge.{TooLarge}
+use Rattle.format.specs.Answers.{too_large}
+use Rattle.logarithm.specs.Answers.{log8_code_paper, log8_counts_paper}
 use Rattle.logarithm.specs.Logarithms.{Encloses, bytes_follow_counts, log8_one, two_sides}
 use Rattle.logarithm.specs.Meaning.{Gives}
 use Rattle.logarithm.specs.Promise.{Log8CodePromise, Log8CountsPromise}
 
 -- "Order of bytes must follow order of counts": a greater count never has a smaller byte
-pub log8_order : {m n a b : ℕ} → m ≤ n → Log8CodePromise m (Log8Code.Code a) → Log8CodePromise n (Log8Code.Code b) → a ≤ b
+pub log8_order : {m n a b : ℕ} → m ≤ n → Log8CodePromise m (Ok a) → Log8CodePromise n (Ok b) → a ≤ b
 log8_order h p q = bytes_follow_counts h p.answer q.answer
 
 -- a count's byte has two counts, and they enclose the count
-pub log8_encloses : {count code : ℕ} {r : Log8Counts} → Log8CodePromise count (Log8Code.Code code) → Log8CountsPromise code r
+pub log8_encloses : {count code : ℕ} {r : Option (ℕ × ℕ)} → Log8CodePromise count (Ok code) → Log8CountsPromise code r
     → Encloses (log8_counts_paper r) count
 log8_encloses {count} {code} {r} p q = (two_sides code count (log8_counts_paper r) q.answer).0 p.answer
 
 -- every count that a byte's two counts enclose, both of them too, has that byte
-pub log8_enclosed : {count code : ℕ} {r : Log8Counts} {s : Log8Code} → Log8CountsPromise code r → Encloses (log8_counts_paper r) count → Log8CodePromise count s
-    → s ≡ Log8Code.Code code
+pub log8_enclosed : {count code : ℕ} {r : Option (ℕ × ℕ)} {s : Result ℕ TooLarge} → Log8CountsPromise code r → Encloses (log8_counts_paper r) count → Log8CodePromise count s
+    → s ≡ Ok code
 log8_enclosed {count} {code} {r} {s} q e p =
     let g : Gives code count = (two_sides code count (log8_counts_paper r) q.answer).1 e in
-    one_answer log8_code_paper log8_code_back log8_code_home (log8_one count (log8_code_paper s) (accepted code) p.answer g) refl
+    one_result too_large (log8_one count (log8_code_paper s) (accepted code) p.answer g) refl
 
 -- both of them have it
-pub log8_ends : {code low high : ℕ} {x y : Log8Code} → Log8CountsPromise code (Log8Counts.Between low high) → Log8CodePromise low x → Log8CodePromise high y
-    → (x ≡ Log8Code.Code code) × (y ≡ Log8Code.Code code)
+pub log8_ends : {code low high : ℕ} {x y : Result ℕ TooLarge} → Log8CountsPromise code (Some (low, high)) → Log8CodePromise low x → Log8CodePromise high y
+    → (x ≡ Ok code) × (y ≡ Ok code)
 log8_ends {code} {low} {high} q x y =
     let reach : low ≤ high = q.answer.1.most low q.answer.0.has in
     (log8_enclosed q (le_refl low, reach) x, log8_enclosed q (reach, le_refl high) y)
 
 -- a byte that is answered by the word is no count's byte
-pub log8_none : {count code : ℕ} → Log8CountsPromise code Log8Counts.NoCount → Log8CodePromise count (Log8Code.Code code) → ⊥
+pub log8_none : {count code : ℕ} → Log8CountsPromise code None → Log8CodePromise count (Ok code) → ⊥
 log8_none {count} q p = q.answer count p.answer

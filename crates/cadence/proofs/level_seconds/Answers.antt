@@ -2,16 +2,16 @@
 -- Assumes nothing.
 use mathlib.Core.Path.{◌≡◌, refl}
 use Prim.Native.Nat.{ℕ, zero-le}
+use Rattle.std.specs.Prelude.{Ok}
 use borrow.Author.Tests.{lt-ltb}
 use Rattle.ground.specs.Paper.{accepted}
 use Rattle.ground.specs.Questions.{past}
-use Rattle.cadence.specs.declared.Length.TheVariants.{Seconds}
 use Rattle.cadence.specs.Meaning.{seconds_means}
 use Rattle.cadence.specs.Promise.{SecondsPromise}
 use Rattle.cadence.proofs.level_seconds.Goals as goal
 
 -- a level's arm answers what the definition has at that level
-at : {level n s : ℕ} → level ≡ n → seconds_means n ≡ accepted s → SecondsPromise level (Seconds s)
+at : {level n s : ℕ} → level ≡ n → seconds_means n ≡ accepted s → SecondsPromise level (Ok s)
 at {s = s} e q = record { answer = rw (e, q) }
 
 pub returns-in-0 : goal.returns-in-0
