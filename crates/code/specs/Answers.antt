@@ -1,35 +1,38 @@
 -- What each answer is on document 01's paper, and the way back.
 -- Assumes nothing.
-use Rattle.std.specs.Prelude.{◌≡◌, refl, List, [], ◌∷◌, ℕ, eqb, get_or}
-use Rattle.std.proofs.Common.{ap}
+use Rattle.std.specs.Prelude.{◌≡◌, refl, List, [], ◌∷◌, ℕ, eqb, get_or, Result, Ok, Err}
 use Rattle.ground.specs.Choice.{pick}
-use Rattle.ground.specs.Paper.{Paper, accepted, refusal, refused}
+use Rattle.ground.specs.Paper.{Paper, refusal, mapped}
+use Rattle.ground.specs.Refusals.{Refusals, on_paper}
 use Rattle.code.specs.Meaning.{ShapeValues, UnpackValues}
-use Rattle.code.specs.declared.Packed.{Packed}
-use Rattle.code.specs.declared.Packed.TheVariants as P
+use Rattle.code.specs.declared.NotPacked.{NotPacked}
+use Rattle.code.specs.declared.NotPacked.TheVariants as N
 use Rattle.code.specs.declared.Refusal.{Refusal}
 use Rattle.code.specs.declared.Refusal.TheVariants.{OutsideRule, RanOut, RedundantZero, RunTooLong}
-use Rattle.code.specs.declared.ShapeAnswer.{ShapeAnswer}
-use Rattle.code.specs.declared.ShapeAnswer.TheVariants as S
+use Rattle.code.specs.declared.Shape.{Shape}
 use Rattle.code.specs.declared.Unpacked.{Unpacked}
-use Rattle.code.specs.declared.Unpacked.TheVariants as U
+
+-- why nothing was written: 8 or 3
+abbrev pub not_packed_number : NotPacked → ℕ
+not_packed_number N.OutsideRule = 8
+not_packed_number N.TooShort = 3
+
+-- the refusal of writing that has a number
+abbrev pub not_packed_back : ℕ → NotPacked
+not_packed_back n = pick (eqb n 8) N.OutsideRule N.TooShort
+
+-- no two refusals of writing have one number
+pub not_packed_home : (why : NotPacked) → not_packed_back (not_packed_number why) ≡ why
+not_packed_home N.OutsideRule = refl
+not_packed_home N.TooShort = refl
+
+-- the refusals of writing
+abbrev pub not_packed : Refusals NotPacked
+not_packed = record { number = not_packed_number; carried = λ why. []; back = λ n carried. not_packed_back n; home = not_packed_home }
 
 -- the next position; 8 or 3
-abbrev pub packed_paper : Packed → Paper ℕ
-packed_paper (P.Next next) = accepted next
-packed_paper P.OutsideRule = refused 8
-packed_paper P.TooShort = refused 3
-
--- the answer that a paper came from
-abbrev pub packed_back : Paper ℕ → Packed
-packed_back (accepted next) = P.Next next
-packed_back (refusal n carried) = pick (eqb n 8) P.OutsideRule P.TooShort
-
--- no two answers of writing read the same on paper
-pub packed_home : (a : Packed) → packed_back (packed_paper a) ≡ a
-packed_home (P.Next next) = refl
-packed_home P.OutsideRule = refl
-packed_home P.TooShort = refl
+abbrev pub packed_paper : Result ℕ NotPacked → Paper ℕ
+packed_paper = on_paper not_packed
 
 -- the numbers of the refusals of reading: drop or number 8, "9, 10, 11 as bits arrive"
 abbrev pub refusal_number : Refusal → ℕ
@@ -60,37 +63,35 @@ refusal_home (RanOut missing) = refl
 refusal_home RedundantZero = refl
 refusal_home RunTooLong = refl
 
+-- the refusals of reading
+abbrev pub not_read : Refusals Refusal
+not_read = record { number = refusal_number; carried = refusal_carries; back = refusal_back; home = refusal_home }
+
+-- a shape that was read, in document 01's words
+abbrev pub shape_values : Shape → ShapeValues
+shape_values s = record { sign = s.sign; magnitude = s.magnitude; error = s.error; next = s.next }
+
+-- the shape that has these values
+abbrev pub shape_back : ShapeValues → Shape
+shape_back v = record { sign = v.sign; magnitude = v.magnitude; error = v.error; next = v.next }
+
 -- sign, magnitude, error and the next position; 8, 9 with the bits missing, 10 or 11
-abbrev pub shape_paper : ShapeAnswer → Paper ShapeValues
-shape_paper (S.Shape sign magnitude error next) = accepted (record { sign = sign; magnitude = magnitude; error = error; next = next })
-shape_paper (S.Refused why) = refusal_paper why
-
--- the answer that a paper came from
-abbrev pub shape_back : Paper ShapeValues → ShapeAnswer
-shape_back (accepted v) = S.Shape v.sign v.magnitude v.error v.next
-shape_back (refusal n carried) = S.Refused (refusal_back n carried)
-
--- no two answers of reading a shape read the same on paper
-pub shape_home : (a : ShapeAnswer) → shape_back (shape_paper a) ≡ a
-shape_home (S.Shape sign magnitude error next) = refl
-shape_home (S.Refused why) = ap S.Refused (refusal_home why)
+abbrev pub shape_paper : Result Shape Refusal → Paper ShapeValues
+shape_paper r = mapped shape_values (on_paper not_read r)
 
 -- why no shape was read; of one that was read nothing is asked
-abbrev pub reason_of : ShapeAnswer → Refusal
-reason_of (S.Shape sign magnitude error next) = OutsideRule
-reason_of (S.Refused why) = why
+abbrev pub reason_of : Result Shape Refusal → Refusal
+reason_of (Ok s) = OutsideRule
+reason_of (Err why) = why
+
+-- a number that was read, in document 01's words
+abbrev pub unpack_values : Unpacked → UnpackValues
+unpack_values u = record { value = u.value; next = u.next }
+
+-- the number that has these values
+abbrev pub unpack_back : UnpackValues → Unpacked
+unpack_back t = record { value = t.value; next = t.next }
 
 -- the number and the next position; 8, 9 with the bits missing, 10 or 11
-abbrev pub unpacked_paper : Unpacked → Paper UnpackValues
-unpacked_paper (U.Number value next) = accepted (record { value = value; next = next })
-unpacked_paper (U.Refused why) = refusal_paper why
-
--- the answer that a paper came from
-abbrev pub unpacked_back : Paper UnpackValues → Unpacked
-unpacked_back (accepted t) = U.Number t.value t.next
-unpacked_back (refusal n carried) = U.Refused (refusal_back n carried)
-
--- no two answers of reading read the same on paper
-pub unpacked_home : (a : Unpacked) → unpacked_back (unpacked_paper a) ≡ a
-unpacked_home (U.Number value next) = refl
-unpacked_home (U.Refused why) = ap U.Refused (refusal_home why)
+abbrev pub unpacked_paper : Result Unpacked Refusal → Paper UnpackValues
+unpacked_paper r = mapped unpack_values (on_paper not_read r)

@@ -1,7 +1,7 @@
 -- Request 2026-06: "Codes already on file keep their bits and meaning", and what is new about the others.
 -- Assumes nothing.
 use Rattle.std.specs.Prelude.{◌≡◌, Bool, true, false, ◌&&◌, ◌⊎◌, ℕ, zero, suc, ◌+◌, ◌*◌, ◌-◌, ◌%◌, ◌/◌, ◌^◌, ◌<◌, ◌≤◌, ℤ, nat_abs, length, drop, replicate}
-use Rattle.std.specs.Prelude.{ltb, leb}
+use Rattle.std.specs.Prelude.{ltb, leb, Result}
 use Rattle.std.proofs.Math.Path.{refl}
 use Rattle.std.proofs.Common.{sym, ap, ap₂, ◌∙◌, inl, ⊎_elim, arith}
 use mathlib.Core.List.{List, [], ◌∷◌, ◌++◌}
@@ -19,7 +19,8 @@ use Rattle.code.specs.Meaning.{number_read, unpack_means, drop_known, place_mean
 use Rattle.code.specs.OldReader.{old_place, old_largest, old_shape_means, old_unpack_means, old_pack_means}
 use Rattle.code.specs.Answers.{packed_paper, unpacked_paper}
 use Rattle.code.specs.Promise.{PackPromise, UnpackPromise}
-use Rattle.code.specs.declared.Packed.{Packed}
+use Rattle.code.specs.declared.NotPacked.{NotPacked}
+use Rattle.code.specs.declared.Refusal.{Refusal}
 use Rattle.code.specs.declared.Unpacked.{Unpacked}
 use Rattle.code.specs.BitLists.{all_bits, all_bits-drop}
 use Rattle.code.specs.Positions.{all_bits-bits_that_count, before_end}
@@ -155,12 +156,12 @@ packs_as_before buffer at v d e =
 -- ---- of the calls
 
 -- what `unpack` answers of a code that was accepted before
-pub unpack_as_before : {bytes : List ℕ} {at d : ℕ} {t : UnpackValues} {r : Unpacked} → UnpackPromise bytes at d r → old_unpack_means bytes at d ≡ accepted t
+pub unpack_as_before : {bytes : List ℕ} {at d : ℕ} {t : UnpackValues} {r : Result Unpacked Refusal} → UnpackPromise bytes at d r → old_unpack_means bytes at d ≡ accepted t
     → unpacked_paper r ≡ accepted t
 unpack_as_before {bytes} {at} {d} p e = p.answer ∙ decodes_as_before bytes at d e
 
 -- what `pack` leaves of a number that was packed before
-pub pack_as_before : {buffer after left : List ℕ} {at d n : ℕ} {v : ℤ} {r : Packed} → PackPromise buffer at v d r after
+pub pack_as_before : {buffer after left : List ℕ} {at d n : ℕ} {v : ℤ} {r : Result ℕ NotPacked} → PackPromise buffer at v d r after
     → old_pack_means buffer at v d ≡ accept n left → outcome_of (packed_paper r) after ≡ accept n left
 pack_as_before {buffer} {at = at} {d = d} {v = v} p e = p.outcome ∙ packs_as_before buffer at v d e
 

@@ -1,36 +1,36 @@
 -- Two outcomes that meet a call's promise are equal, answer and memory.
 -- Assumes nothing.
-use Rattle.std.specs.Prelude.{◌≡◌, Bool, ◌&&◌, List, ℕ, leb, ℤ, nat_abs, length}
-use Rattle.ground.specs.Paper.{number_of, one_answer, one_value}
-use Rattle.ground.specs.Outcome.{outcome_one}
+use Rattle.std.specs.Prelude.{◌≡◌, Bool, ◌&&◌, List, ℕ, leb, ℤ, nat_abs, length, refl, Result}
+use Rattle.ground.specs.Paper.{number_of, one_value}
+use Rattle.ground.specs.Refusals.{one_outcome, one_result_as}
 use Rattle.code.specs.Meaning.{bits_that_count, drop_known, largest}
-use Rattle.code.specs.Answers.{packed_paper, packed_back, packed_home, shape_paper, shape_back, shape_home, reason_of, refusal_number}
-use Rattle.code.specs.Answers.{unpacked_paper, unpacked_back, unpacked_home}
+use Rattle.code.specs.Answers.{packed_paper, not_packed, not_read, shape_values, shape_back, reason_of, refusal_number}
+use Rattle.code.specs.Answers.{unpacked_paper, unpack_values, unpack_back}
 use Rattle.code.specs.Promise.{PackPromise, ShapePromise, UnpackPromise, SignPromise, PowerPromise, BitPromise}
-use Rattle.code.specs.declared.Packed.{Packed}
+use Rattle.code.specs.declared.NotPacked.{NotPacked}
 use Rattle.code.specs.declared.Refusal.{Refusal}
-use Rattle.code.specs.declared.ShapeAnswer.{ShapeAnswer}
+use Rattle.code.specs.declared.Shape.{Shape}
 use Rattle.code.specs.declared.Unpacked.{Unpacked}
 
 -- writing has one outcome
-pub pack_one : {buffer : List ℕ} {at : ℕ} {v : ℤ} {d : ℕ} {r s : Packed} {a b : List ℕ}
+pub pack_one : {buffer : List ℕ} {at : ℕ} {v : ℤ} {d : ℕ} {r s : Result ℕ NotPacked} {a b : List ℕ}
     → PackPromise buffer at v d r a → PackPromise buffer at v d s b → (r ≡ s) × (a ≡ b)
-pack_one p q = outcome_one packed_paper packed_back packed_home p.outcome q.outcome
+pack_one p q = one_outcome not_packed p.outcome q.outcome
 
 -- reading a shape has one outcome
-pub shape_one : {bytes : List ℕ} {at d : ℕ} {r s : ShapeAnswer} → ShapePromise bytes at d r → ShapePromise bytes at d s → r ≡ s
-shape_one p q = one_answer shape_paper shape_back shape_home p.answer q.answer
+pub shape_one : {bytes : List ℕ} {at d : ℕ} {r s : Result Shape Refusal} → ShapePromise bytes at d r → ShapePromise bytes at d s → r ≡ s
+shape_one p q = one_result_as not_read shape_values shape_back (λ s. refl) p.answer q.answer
 
 -- reading has one outcome, by `unpack`, by a reader and by the call above them
-pub unpack_one : {bytes : List ℕ} {at d : ℕ} {r s : Unpacked} → UnpackPromise bytes at d r → UnpackPromise bytes at d s → r ≡ s
-unpack_one p q = one_answer unpacked_paper unpacked_back unpacked_home p.answer q.answer
+pub unpack_one : {bytes : List ℕ} {at d : ℕ} {r s : Result Unpacked Refusal} → UnpackPromise bytes at d r → UnpackPromise bytes at d s → r ≡ s
+unpack_one p q = one_result_as not_read unpack_values unpack_back (λ u. refl) p.answer q.answer
 
 -- one number for an answer of writing
-pub packed_number_one : (answer : Packed) {m n : ℕ} → m ≡ number_of (packed_paper answer) → n ≡ number_of (packed_paper answer) → m ≡ n
+pub packed_number_one : (answer : Result ℕ NotPacked) {m n : ℕ} → m ≡ number_of (packed_paper answer) → n ≡ number_of (packed_paper answer) → m ≡ n
 packed_number_one answer p q = one_value p q
 
 -- one number for an answer of reading
-pub unpacked_number_one : (answer : Unpacked) {m n : ℕ} → m ≡ number_of (unpacked_paper answer) → n ≡ number_of (unpacked_paper answer) → m ≡ n
+pub unpacked_number_one : (answer : Result Unpacked Refusal) {m n : ℕ} → m ≡ number_of (unpacked_paper answer) → n ≡ number_of (unpacked_paper answer) → m ≡ n
 unpacked_number_one answer p q = one_value p q
 
 -- one number for a refusal
@@ -38,7 +38,7 @@ pub refusal_number_one : (why : Refusal) {m n : ℕ} → m ≡ refusal_number wh
 refusal_number_one why p q = one_value p q
 
 -- one reason for an answer
-pub reason_one : (a : ShapeAnswer) {x y : Refusal} → x ≡ reason_of a → y ≡ reason_of a → x ≡ y
+pub reason_one : (a : Result Shape Refusal) {x y : Refusal} → x ≡ reason_of a → y ≡ reason_of a → x ≡ y
 reason_one a p q = one_value p q
 
 -- one magnitude for a number

@@ -1,7 +1,7 @@
 -- What packing and unpacking do together: the same bits again, the same number again, a run of codes, and the ends of the range.
 -- Assumes nothing.
 use Rattle.std.specs.Prelude.{◌≡◌, refl, Bool, true, ◌&&◌, List, [], ◌∷◌, ◌++◌, map, ℕ, zero, suc, ◌+◌, ◌-◌, ◌/◌, ◌%◌, ◌^◌, ◌<◌, ◌≤◌, ℤ, nat_abs}
-use Rattle.std.specs.Prelude.{length, take, drop, replicate, leb, eqb}
+use Rattle.std.specs.Prelude.{length, take, drop, replicate, leb, eqb, Result, Err}
 use Rattle.std.proofs.Common.{sym, ap, ap₂, ◌∙◌, subst, append_assoc, arith, length-append, length-take, length-drop, take-append-drop, take-take, take_at}
 use Rattle.std.proofs.Common.{drop_at, length-take-le, le-leb, leb-true}
 use Rattle.std.proofs.lemmas.List.{length-replicate}
@@ -17,8 +17,7 @@ use Rattle.code.specs.Meaning.{past_end, answer_to}
 use Rattle.code.specs.Meaning.{greatest_place, largest, answer_of, position_means, shape_means, number_read, unpack_means, in_rule, pack_means, place_means}
 use Rattle.code.specs.Meaning.{fits_at, put_at, padded, to_byte_end, bytes_with, drop_known}
 use Rattle.code.specs.declared.Refusal.{Refusal}
-use Rattle.code.specs.declared.ShapeAnswer.{ShapeAnswer}
-use Rattle.code.specs.declared.ShapeAnswer.TheVariants as S
+use Rattle.code.specs.declared.Shape as Read
 use Rattle.code.specs.Answers.{shape_paper, refusal_paper, reason_of}
 use Rattle.code.specs.Promise.{ShapePromise}
 use Rattle.code.specs.BitLists.{all_bits, all_bits-append, all_bits-take, all_bits-drop, all_bits-to_bits, all_bits-bits_of, length-bits_of}
@@ -140,10 +139,10 @@ read_fits bytes at d e =
     })
 
 -- a refusal of the shape is handed on by all that goes on from it
-pub hands_on : {A : Type 0} (then : ShapeValues → Paper A) (bytes : List ℕ) (at d : ℕ) (r : ShapeAnswer) (why given : Refusal) → ShapePromise bytes at d r
-    → r ≡ S.Refused given → why ≡ reason_of r → refusal_paper why ≡ onward then (shape_means bytes at d)
+pub hands_on : {A : Type 0} (then : ShapeValues → Paper A) (bytes : List ℕ) (at d : ℕ) (r : Result Read.Shape Refusal) (why given : Refusal)
+    → ShapePromise bytes at d r → r ≡ Err given → why ≡ reason_of r → refusal_paper why ≡ onward then (shape_means bytes at d)
 hands_on then bytes at d r why given p e f =
-    ap refusal_paper (f ∙ ap reason_of e) ∙ sym (ap (λ (a : ShapeAnswer). onward then (shape_paper a)) e) ∙ ap (onward then) p.answer
+    ap refusal_paper (f ∙ ap reason_of e) ∙ sym (ap (λ (a : Result Read.Shape Refusal). onward then (shape_paper a)) e) ∙ ap (onward then) p.answer
 
 -- ---- codes that are put into bytes
 

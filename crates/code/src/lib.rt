@@ -2,10 +2,11 @@
 #![tactic(auto)]
 
 ghost use Rattle.std.specs.Prelude.{◌≡◌, ◌&&◌, leb, nat_abs, length};
-ghost use Rattle.ground.specs.Paper.{number_of};
 ghost use Rattle.code.specs.Meaning.{bits_that_count, drop_known, largest};
-ghost use Rattle.code.specs.Answers.{packed_paper, unpacked_paper, refusal_number, reason_of};
+ghost use Rattle.code.specs.Answers.{not_packed, not_read};
 ghost use Rattle.code.specs.Promise.{SignPromise, PowerPromise, BitPromise};
+
+use ground::Numbered;
 
 // The greatest place of a leading one: the one number from which the limits follow.
 pub const GREATEST_PLACE: u32 = 25;
@@ -16,17 +17,27 @@ pub const LARGEST: u32 = (1 << (GREATEST_PLACE + 1)) - 1;
 // The longest run of ones that is taken.
 pub const LONGEST_RUN: u32 = (GREATEST_PLACE - 1) / 2;
 
-// What writing a code answers: the next bit position, or why nothing was written.
-#[derive(Clone, Copy)]
-pub enum Packed {
-    Next(u64),
+// Why nothing was written: a drop or a number outside the rule, or a buffer too short for the code.
+#[derive(Clone, Copy, Debug, PartialEq, Eq)]
+pub enum NotPacked {
     OutsideRule,
     TooShort,
 }
 
+impl Numbered for NotPacked {
+    ghost refusals = { not_packed };
+
+    fn number(&self) -> u8 {
+        match self {
+            NotPacked::OutsideRule => 8,
+            NotPacked::TooShort => 3,
+        }
+    }
+}
+
 // Why a code is not read: a drop or a number outside the rule, bits that ran out, with the least number that is missing, a redundant zero, a run of
 // ones too long.
-#[derive(Clone, Copy)]
+#[derive(Clone, Copy, Debug, PartialEq, Eq)]
 pub enum Refusal {
     OutsideRule,
     RanOut { missing: u8 },
@@ -34,71 +45,33 @@ pub enum Refusal {
     RunTooLong,
 }
 
-// What reading a code's shape answers: its sign bit, its decoded magnitude, its error and the next bit position, or why there is none.
+impl Numbered for Refusal {
+    ghost refusals = { not_read };
+
+    fn number(&self) -> u8 {
+        match self {
+            Refusal::OutsideRule => 8,
+            Refusal::RanOut { missing: _ } => 9,
+            Refusal::RedundantZero => 10,
+            Refusal::RunTooLong => 11,
+        }
+    }
+}
+
+// A code's shape: its sign bit, its decoded magnitude, its error and the next bit position.
 #[derive(Clone, Copy)]
-pub enum ShapeAnswer {
-    Shape {
-        sign: u32,
-        magnitude: u32,
-        error: u32,
-        next: u64,
-    },
-    Refused(Refusal),
+pub struct Shape {
+    pub sign: u32,
+    pub magnitude: u32,
+    pub error: u32,
+    pub next: u64,
 }
 
-// What reading a code answers: the number and the next bit position, or why there is none.
+// A code's number and the next bit position.
 #[derive(Clone, Copy)]
-pub enum Unpacked {
-    Number { value: i32, next: u64 },
-    Refused(Refusal),
-}
-
-// Document 01's number of what writing answered, 0 where a code was written.
-pub fn packed_number(a: Packed) -> u8
-    ensures { result ≡ number_of (packed_paper a) }
-{
-    match a {
-        Packed::Next(_) => 0,
-        Packed::OutsideRule => 8,
-        Packed::TooShort => 3,
-    }
-}
-
-// Document 01's number of what reading answered, 0 where a number was read.
-pub fn unpacked_number(a: Unpacked) -> u8
-    ensures { result ≡ number_of (unpacked_paper a) }
-{
-    match a {
-        Unpacked::Number { value: _, next: _ } => 0,
-        Unpacked::Refused(why) => refusal_number(why),
-    }
-}
-
-// Document 01's number of a refusal.
-pub fn refusal_number(why: Refusal) -> u8
-    ensures { result ≡ refusal_number why }
-{
-    match why {
-        Refusal::OutsideRule => 8,
-        Refusal::RanOut { missing: _ } => 9,
-        Refusal::RedundantZero => 10,
-        Refusal::RunTooLong => 11,
-    }
-}
-
-// Why no shape was read; of one that was read nothing is asked.
-pub fn reason(a: ShapeAnswer) -> Refusal
-    ensures { result ≡ reason_of a }
-{
-    match a {
-        ShapeAnswer::Refused(why) => why,
-        ShapeAnswer::Shape {
-            sign: _,
-            magnitude: _,
-            error: _,
-            next: _,
-        } => Refusal::OutsideRule,
-    }
+pub struct Unpacked {
+    pub value: i32,
+    pub next: u64,
 }
 
 // The magnitude of a number, at every i32.

@@ -31,8 +31,9 @@ use Rattle.code.specs.Numbers.{shift_is}
 use Rattle.pack.specs.Steps.{Holds, byte_bits, PlacePromise}
 use Rattle.pack.specs.Promise.{FieldPromise}
 use Rattle.code.specs.Promise.{PackPromise}
-use Rattle.code.specs.declared.Packed.{Packed}
-use Rattle.code.specs.declared.Packed.TheVariants.{Next, OutsideRule as PackedOutsideRule, TooShort}
+use Rattle.std.specs.Prelude.{Result, Ok, Err}
+use Rattle.code.specs.declared.NotPacked.{NotPacked}
+use Rattle.code.specs.declared.NotPacked.TheVariants.{OutsideRule, TooShort}
 
 -- ---- a code's bits as a number
 
@@ -422,7 +423,7 @@ place_by buffer at l e = ap (λ (b : Bool). pick b (accept (at + length l) (byte
 
 -- they do not fit
 pub place_short : (buffer : List ℕ) (at number count end : ℕ) → end ≡ length (bits_that_count buffer) → end < at + count
-    → PlacePromise buffer at (to_bits count number) TooShort buffer
+    → PlacePromise buffer at (to_bits count number) (Err TooShort) buffer
 place_short buffer at number count end e h =
     let t : fits_at buffer at (to_bits count number) ≡ false
     = lt-leb (at + length (to_bits count number)) (length (bits_that_count buffer)) (omega (arith, length-to_bits count number)) in
@@ -440,7 +441,7 @@ padded_is at number count pad e =
 pub place_there : (buffer last : List ℕ) (at number count end pad joined : ℕ) → end ≡ length (bits_that_count buffer) → at + count ≤ end
     → pad ≡ to_byte_end (at + count) → joined ≡ number * 2 ^ pad + 0 → length last ≡ length buffer → Bytes last
     → bits_of last ≡ put (bits_of buffer) at (to_bits (count + pad) joined)
-    → PlacePromise buffer at (to_bits count number) (Next (at + count)) last
+    → PlacePromise buffer at (to_bits count number) (Ok (at + count)) last
 place_there buffer last at number count end pad joined e h p q same ok wrote =
     let l : List ℕ = to_bits count number in
     let t : fits_at buffer at l ≡ true = le-leb (at + length l) (length (bits_that_count buffer)) (omega (arith, length-to_bits count number)) in
@@ -456,7 +457,7 @@ place_there buffer last at number count end pad joined e h p q same ok wrote =
 -- ---- a number packed
 
 -- inside the rule
-pub pack_is : (buffer last : List ℕ) (at : ℕ) (v : ℤ) (d s m number count : ℕ) (r : Packed)
+pub pack_is : (buffer last : List ℕ) (at : ℕ) (v : ℤ) (d s m number count : ℕ) (r : Result ℕ NotPacked)
     → m ≡ nat_abs v → s ≡ sign_of v → (drop_known d && leb m largest) ≡ true
     → Holds number count (bits d (shape_of d s m)) → PlacePromise buffer at (to_bits count number) r last
     → PackPromise buffer at v d r last
@@ -473,7 +474,7 @@ pack_is buffer last at v d s m number count r em es t held placed =
 
 -- outside the rule
 pub pack_refuses : (buffer : List ℕ) (at : ℕ) (v : ℤ) (d m : ℕ) → m ≡ nat_abs v → (drop_known d && leb m largest) ≡ false
-    → PackPromise buffer at v d PackedOutsideRule buffer
+    → PackPromise buffer at v d (Err OutsideRule) buffer
 pack_refuses buffer at v d m em t =
     let rule : in_rule v d ≡ false = ap (λ (n : ℕ). drop_known d && leb n largest) (sym em) ∙ t in
     record { outcome = sym (ap (λ (b : Bool). pick b (place_means buffer at (code_of d v)) (refuse 8 buffer)) rule) }
@@ -481,7 +482,7 @@ pack_refuses buffer at v d m em t =
 -- ---- a field of a number
 
 -- at most 32 bits: they are put as a code's are
-pub field_is : (buffer last : List ℕ) (at number width bits : ℕ) (r : Packed) → width ≤ 32 → bits ≡ number % 2 ^ width
+pub field_is : (buffer last : List ℕ) (at number width bits : ℕ) (r : Result ℕ NotPacked) → width ≤ 32 → bits ≡ number % 2 ^ width
     → PlacePromise buffer at (to_bits width bits) r last → FieldPromise buffer at number width r last
 field_is buffer last at number width bits r h e placed =
     record {
@@ -492,6 +493,6 @@ field_is buffer last at number width bits r h e placed =
     }
 
 -- more than 32
-pub field_refuses : (buffer : List ℕ) (at number width : ℕ) → 32 < width → FieldPromise buffer at number width PackedOutsideRule buffer
+pub field_refuses : (buffer : List ℕ) (at number width : ℕ) → 32 < width → FieldPromise buffer at number width (Err OutsideRule) buffer
 field_refuses buffer at number width h =
     record { outcome = sym (ap (λ (b : Bool). pick b (place_means buffer at (to_bits width number)) (refuse 8 buffer)) (lt-leb width 32 h)) }

@@ -1,19 +1,20 @@
 -- Two outcomes that meet the promise of `field` are equal, answer and buffer, and a refusal leaves the buffer; those of `pack` are in `code`.
 -- Assumes nothing.
-use Rattle.std.specs.Prelude.{◌≡◌, refl, List, ℕ, ◌+◌, leb, length}
+use Rattle.std.specs.Prelude.{◌≡◌, refl, List, ℕ, ◌+◌, leb, length, Result}
 use Rattle.ground.specs.Bits.{to_bits}
 use Rattle.ground.specs.Choice.{pick_elim}
-use Rattle.ground.specs.Outcome.{accept, refuse, Stays, outcome_one}
+use Rattle.ground.specs.Outcome.{accept, refuse, Stays}
+use Rattle.ground.specs.Refusals.{one_outcome}
 use Rattle.code.specs.Meaning.{fits_at, bytes_with, place_means}
-use Rattle.code.specs.Answers.{packed_paper, packed_back, packed_home}
-use Rattle.code.specs.declared.Packed.{Packed}
+use Rattle.code.specs.Answers.{not_packed}
+use Rattle.code.specs.declared.NotPacked.{NotPacked}
 use Rattle.pack.specs.Meaning.{field_means}
 use Rattle.pack.specs.Promise.{FieldPromise}
 
 -- putting a field has one outcome
-pub field_one : {buffer : List ℕ} {at x w : ℕ} {r s : Packed} {a b : List ℕ}
+pub field_one : {buffer : List ℕ} {at x w : ℕ} {r s : Result ℕ NotPacked} {a b : List ℕ}
     → FieldPromise buffer at x w r a → FieldPromise buffer at x w s b → (r ≡ s) × (a ≡ b)
-field_one p q = outcome_one packed_paper packed_back packed_home p.outcome q.outcome
+field_one p q = one_outcome not_packed p.outcome q.outcome
 
 -- bits that do not fit leave the buffer as it was
 pub place_stays : (buffer : List ℕ) (at : ℕ) (l : List ℕ) → Stays buffer (place_means buffer at l)

@@ -7,10 +7,10 @@ ghost use Rattle.std.specs.Prelude.{pos};
 ghost use Rattle.code.specs.Promise.{PackPromise};
 ghost use Rattle.pack.specs.Promise.{FieldPromise};
 
-use code::Packed;
+use code::NotPacked;
 
 // A number put into a buffer as a code, from a bit position on.
-pub fn pack(buffer: &mut [u8], at: u64, v: i32, drop: u8) -> Packed
+pub fn pack(buffer: &mut [u8], at: u64, v: i32, drop: u8) -> Result<u64, NotPacked>
     ensures { PackPromise buffer.old at v drop result buffer.new }
 {
     let m = code::magnitude(v);
@@ -18,30 +18,30 @@ pub fn pack(buffer: &mut [u8], at: u64, v: i32, drop: u8) -> Packed
         let code = write::code(drop, code::sign(v), m);
         write::place(buffer, at, code.number, code.count)
     } else {
-        Packed::OutsideRule
+        Err(NotPacked::OutsideRule)
     }
 }
 
 // A count put into a buffer as a code with drop 0, from a bit position on.
-pub fn pack_count(buffer: &mut [u8], at: u64, count: u64) -> Packed
+pub fn pack_count(buffer: &mut [u8], at: u64, count: u64) -> Result<u64, NotPacked>
     ensures { PackPromise buffer.old at (pos count) 0 result buffer.new }
 {
     if count <= code::LARGEST as u64 {
         let code = write::code(0, 0, count as u32);
         write::place(buffer, at, code.number, code.count)
     } else {
-        Packed::OutsideRule
+        Err(NotPacked::OutsideRule)
     }
 }
 
 // The last bits of a number, at most 32 of them, put into a buffer from a bit position on.
-pub fn field(buffer: &mut [u8], at: u64, number: u32, width: u32) -> Packed
+pub fn field(buffer: &mut [u8], at: u64, number: u32, width: u32) -> Result<u64, NotPacked>
     ensures { FieldPromise buffer.old at number width result buffer.new }
 {
     if width <= 32 {
         let bits = write::last(number as u64, width);
         write::place(buffer, at, bits, width)
     } else {
-        Packed::OutsideRule
+        Err(NotPacked::OutsideRule)
     }
 }

@@ -6,7 +6,7 @@ ghost use Rattle.code.specs.Meaning.{least_coded, leading as leading_place, shap
 ghost use Rattle.code.specs.Shapes.{Drop};
 ghost use Rattle.pack.specs.Steps.{Holds, PlacePromise, byte_bits};
 
-use code::Packed;
+use code::NotPacked;
 
 // Bits held in a number, the first counting most.
 #[derive(Clone, Copy)]
@@ -133,21 +133,21 @@ pub(crate) fn last(number: u64, width: u32) -> u64
 }
 
 // Bits put at a position, the rest of their last byte set to 0; or nothing, where they do not fit.
-pub(crate) fn place(buffer: &mut [u8], at: u64, number: u64, count: u32) -> Packed
+pub(crate) fn place(buffer: &mut [u8], at: u64, number: u64, count: u32) -> Result<u64, NotPacked>
     requires { (number < 2 ^ count) × (count ≤ 33) }
     ensures { PlacePromise buffer.old at (to_bits count number) result buffer.new }
 {
     let end = code::end_of(buffer);
     if end < at {
-        return Packed::TooShort;
+        return Err(NotPacked::TooShort);
     }
     if end - at < count as u64 {
-        return Packed::TooShort;
+        return Err(NotPacked::TooShort);
     }
     let next = at + count as u64;
     let pad = to_byte_end(next);
     put(buffer, at, join(number, count, 0, pad), count + pad);
-    Packed::Next(next)
+    Ok(next)
 }
 
 // How many bits there are from a position to the end of its byte.
