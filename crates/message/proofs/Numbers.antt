@@ -1,39 +1,39 @@
--- A value taken from its bytes, the first first, and put as its bytes, the last first.
+-- A value taken from its bytes, and put as its bytes, the highest first.
 -- Assumes nothing.
 use mathlib.Core.Path.{◌≡◌, refl, sym, ap, ap₂, ◌∙◌}
-use mathlib.Core.List.{List, ◌++◌}
-use Prim.Native.Nat.{ℕ, suc, ◌+◌, ◌-◌, ◌*◌, ◌/◌, ◌%◌, ◌^◌, ◌<◌, ◌≤◌, zero-le}
-use native.Mathlib.Nat.{pow-suc, pow-le-pow_right, div-div-eq-div-mul, zero-lt-suc, add-zero, div-one}
+use mathlib.Core.List.{List, [], ◌∷◌, ◌++◌}
+use Prim.Native.Nat.{ℕ, zero, suc, ◌+◌, ◌-◌, ◌*◌, ◌/◌, ◌%◌, ◌^◌, ◌<◌, ◌≤◌}
+use native.Mathlib.Nat.{add_comm, pow-suc, pow-le-pow_right, zero-lt-suc, div-one, le_antisymm}
 use native.Mathlib.Numerals.{add-one}
 use native.Mathlib.Omega.{arith}
-use lib.ListN.{length, take, drop, get_or, set, length-drop, length-set, take-append-drop}
-use lib.Seq.{take-suc, get_or-drop}
-use Rattle.ground.specs.Words.{number, bytes_of, number_snoc}
-use Rattle.ground.specs.Putting.{put, put_front}
+use borrow.Rule.Slice.PartMut.{put_mid, Post-is}
+use lib.ListN.{length, take, drop, get_or}
+use lib.Seq.{take-suc, take-length}
+use Rattle.std.specs.Int.{bytes_high_first}
+use Rattle.ground.specs.Words.{number, bytes_of, length-bytes_of, number_snoc}
+use Rattle.ground.specs.Putting.{put}
+use Rattle.message.specs.Meaning.{data_size}
 
--- the first i bytes from a place on are in the value
-pub record Summed (bytes : List ℕ) (at count value i : ℕ) : Type 0 where
-  pub within : i ≤ count
-  pub so_far : value ≡ number (take i (drop at bytes))
+-- the first i bytes are in the value
+pub record Summed (bytes : List ℕ) (value i : ℕ) : Type 0 where
+  pub so_far : value ≡ number (take i bytes)
   pub small : value < 256 ^ i
 
 -- before the first byte
-pub summed_none : (bytes : List ℕ) (at count : ℕ) → Summed bytes at count 0 0
-summed_none bytes at count = record { within = zero-le; so_far = refl; small = zero-lt-suc 0 }
+pub summed_none : (bytes : List ℕ) → Summed bytes 0 0
+summed_none bytes = record { so_far = refl; small = zero-lt-suc 0 }
 
 -- one byte more in the value
-pub summed_more : {bytes : List ℕ} {at count value i : ℕ} (b : ℕ) → at + count ≤ length bytes → Summed bytes at count value i → i < count
-    → b ≡ get_or bytes (at + i) 0 → b < 256 → Summed bytes at count (value * 256 + b) (i + 1)
-summed_more {bytes} {at} {count} {value} {i} b n s h is g =
-    let there : i < length (drop at bytes) = omega (arith, length-drop at bytes) in
+pub summed_more : {bytes : List ℕ} {value i : ℕ} → Summed bytes value i → i < length bytes → get_or bytes i 0 < 256
+    → Summed bytes (value * 256 + get_or bytes i 0) (i + 1)
+summed_more {bytes} {value} {i} s h small =
     let power : 256 ^ (i + 1) ≡ 256 ^ i * 256 = ap (λ (k : ℕ). 256 ^ k) (add-one i) ∙ pow-suc 256 i in
     record {
-      within = omega arith;
       so_far =
-          ap₂ (λ (x y : ℕ). x * 256 + y) s.so_far (is ∙ sym (get_or-drop at bytes i 0))
-          ∙ sym (number_snoc (take i (drop at bytes)) (get_or (drop at bytes) i 0))
-          ∙ ap number (sym (take-suc (drop at bytes) i 0 there))
-          ∙ ap (λ (k : ℕ). number (take k (drop at bytes))) (sym (add-one i));
+          ap (λ (x : ℕ). x * 256 + get_or bytes i 0) s.so_far
+          ∙ sym (number_snoc (take i bytes) (get_or bytes i 0))
+          ∙ ap number (sym (take-suc bytes i 0 h))
+          ∙ ap (λ (k : ℕ). number (take k bytes)) (sym (add-one i));
       small = omega (arith, power, s.small);
     }
 
@@ -41,60 +41,30 @@ summed_more {bytes} {at} {count} {value} {i} b n s h is g =
 pub room : {i value : ℕ} → value < 256 ^ i → i < 8 → value < 2 ^ 56
 room {i} {value} s h = let within : i ≤ 7 = omega arith in omega (arith, pow-le-pow_right (zero-lt-suc 255) within)
 
--- the last bytes of the value are put, and so much of it is left
-pub record Putting (buffer₀ : List ℕ) (at count value : ℕ) (buffer : List ℕ) (left rest : ℕ) : Type 0 where
-  pub within : left ≤ count
-  pub so_far : buffer ≡ put buffer₀ (at + left) (bytes_of (count - left) value)
-  pub still : rest ≡ value / 256 ^ (count - left)
-  pub long : length buffer ≡ length buffer₀
+-- the bytes of a number from the highest on are those that document 01 writes, "big endian"
+high_first : (k n : ℕ) → bytes_high_first k n ≡ bytes_of k n
+high_first zero n = refl
+high_first (suc zero) n = ap (λ (x : ℕ). x % 256 ∷ []) (sym (div-one n))
+high_first (suc (suc k)) n = ap (λ (l : List ℕ). (n / 256 ^ suc k % 256) ∷ l) (high_first (suc k) n)
 
--- before the last byte
-pub putting_none : (buffer : List ℕ) (at count value : ℕ) → Putting buffer at count value buffer count value
-putting_none buffer at count value =
-    let none : count - count ≡ 0 = omega arith in
-    record {
-      within = omega arith;
-      so_far =
-          sym (take-append-drop (at + count) buffer)
-          ∙ ap (λ (k : ℕ). take (at + count) buffer ++ drop k buffer) (sym (add-zero (at + count)))
-          ∙ ap (λ (k : ℕ). put buffer (at + count) (bytes_of k value)) (sym none);
-      still = sym (div-one value) ∙ ap (λ (k : ℕ). value / 256 ^ k) (sym none);
-      long = refl;
-    }
+-- the last of eight bytes, as many as a tag stands for
+last_bytes : (tag n : ℕ) → take (8 - (8 - data_size tag)) (drop (8 - data_size tag) (bytes_of 8 n)) ≡ bytes_of (data_size tag) n
+last_bytes zero n = refl
+last_bytes (suc zero) n = refl
+last_bytes (suc (suc zero)) n = refl
+last_bytes (suc (suc (suc t))) n = refl
 
--- one byte more put
-pub putting_more : {buffer₀ : List ℕ} {at count value : ℕ} {buffer : List ℕ} {left rest : ℕ} → at + count ≤ length buffer₀
-    → Putting buffer₀ at count value buffer left rest → 0 < left
-    → Putting buffer₀ at count value (set buffer (at + (left - 1)) (rest % 256)) (left - 1) (rest / 256)
-putting_more {buffer₀} {at} {count} {value} {buffer} {left} {rest} n p h =
-    let k = count - left in
-    let before : at + left ≡ at + (left - 1) + 1 = omega arith in
-    let longer : count - (left - 1) ≡ suc k = omega arith in
-    let power : 256 ^ suc k ≡ 256 ^ k * 256 = pow-suc 256 k in
-    record {
-      within = omega arith;
-      so_far =
-          ap₂ (λ (x : List ℕ) (y : ℕ). set x (at + (left - 1)) (y % 256))
-          (p.so_far ∙ ap (λ (m : ℕ). put buffer₀ m (bytes_of k value)) before)
-          p.still
-          ∙ put_front buffer₀ (at + (left - 1)) (bytes_of k value) (value / 256 ^ k % 256) (omega arith)
-          ∙ ap (λ (m : ℕ). put buffer₀ (at + (left - 1)) (bytes_of m value)) (sym longer);
-      still =
-          ap (λ (x : ℕ). x / 256) p.still ∙ div-div-eq-div-mul value (256 ^ k) 256
-          ∙ ap (λ (x : ℕ). value / x) (sym power) ∙ ap (λ (m : ℕ). value / 256 ^ m) (sym longer);
-      long = length-set buffer (at + (left - 1)) (rest % 256) ∙ p.long;
-    }
-
--- all bytes are put
-pub putting_all : {buffer₀ : List ℕ} {at count value : ℕ} {buffer : List ℕ} {left rest : ℕ} → Putting buffer₀ at count value buffer left rest
-    → left ≤ 0 → buffer ≡ put buffer₀ at (bytes_of count value)
-putting_all {buffer₀} {at} {count} {value} {buffer} {left} p h =
-    let none : at + left ≡ at = omega arith in
-    let all : count - left ≡ count = omega arith in
-    p.so_far ∙ ap₂ (λ (m k : ℕ). put buffer₀ m (bytes_of k value)) none all
+-- they lie behind mark and word
+pub data_put : (buffer : List ℕ) {part eight : List ℕ} {size : ℕ} (tag value : ℕ) → size ≡ data_size tag → eight ≡ bytes_high_first 8 value
+    → part ≡ take (8 - (8 - size)) (drop (8 - size) eight)
+    → put_mid 4 (size + 4 - 4) buffer part ≡ put buffer 4 (bytes_of size value)
+data_put buffer {part} {eight} {size} tag value is e p =
+    let bytes : part ≡ bytes_of size value =
+    p ∙ ap₂ (λ (k : ℕ) (l : List ℕ). take (8 - (8 - k)) (drop (8 - k) l)) is (e ∙ high_first 8 value) ∙ last_bytes tag value ∙ ap (λ (k : ℕ). bytes_of k value) (sym is) in
+    let behind : size + 4 ≡ 4 + length (bytes_of size value) = add_comm size 4 ∙ ap (λ (k : ℕ). 4 + k) (sym (length-bytes_of size value)) in
+    ap₂ (λ (x y : List ℕ). take 4 buffer ++ (x ++ y)) bytes
+    (Post-is 4 (size + 4) buffer (omega arith) ∙ ap (λ (k : ℕ). drop k buffer) behind)
 
 -- all bytes are in the value
-pub summed_all : {bytes : List ℕ} {at count value i : ℕ} → Summed bytes at count value i → count ≤ i → value ≡ number (take count (drop at bytes))
-summed_all {bytes} {at} {count} {value} {i} s h =
-    let all : i ≡ count = omega (arith, s.within) in
-    s.so_far ∙ ap (λ (k : ℕ). number (take k (drop at bytes))) all
+pub summed_all : {bytes : List ℕ} {value i : ℕ} → Summed bytes value i → i ≤ length bytes → length bytes ≤ i → value ≡ number bytes
+summed_all {bytes} s within h = s.so_far ∙ ap (λ (k : ℕ). number (take k bytes)) (le_antisymm within h) ∙ ap number (take-length bytes)

@@ -8,13 +8,14 @@ use native.Mathlib.Nat.{add_comm}
 use native.Mathlib.Omega.{arith}
 use borrow.Author.Tests.{lt-ltb, le-ltb}
 use lib.ListN.{length, drop}
+use Rattle.std.specs.Prelude.{Ok, Err}
 use Rattle.ground.specs.Outcome.{accept}
 use Rattle.ground.specs.Words.{bytes_of, length-bytes_of}
 use Rattle.ground.specs.Putting.{put, put_next}
 use Rattle.crc.specs.Promise.{SealPromise}
 use Rattle.crc.specs.Sealing.{seal_front}
 use Rattle.message.specs.Meaning.{mark, data_size, tag_word, covered, message_of, sayable, write_means}
-use Rattle.message.specs.declared.MessageWritten.TheVariants as W
+use Rattle.message.specs.declared.NotWritten.TheVariants as W
 use Rattle.message.specs.Promise.{WritePromise}
 use Rattle.message.specs.ReadBack.{covered-length}
 
@@ -41,20 +42,20 @@ module _ (buffer : List ℕ) (address tag value size : ℕ) (is : size ≡ data_
 
 module _ {buffer : List ℕ} {address tag value : ℕ} {answer : Bool} (said : answer ≡ sayable address tag value) where
   -- an address, a tag or bits outside the rule
-  pub unsayable : answer ≡ false → WritePromise buffer address tag value W.OutsideRule buffer
+  pub unsayable : answer ≡ false → WritePromise buffer address tag value (Err W.OutsideRule) buffer
   unfolding write_means
   unsayable e = record { outcome = rw (sym said ∙ e) }
 
   module _ (e : answer ≡ true) {size : ℕ} (is : size ≡ data_size tag) where
     -- a buffer that is too short
-    pub too_short : length buffer < size + 6 → WritePromise buffer address tag value W.BufferTooShort buffer
+    pub too_short : length buffer < size + 6 → WritePromise buffer address tag value (Err W.BufferTooShort) buffer
     unfolding write_means
     too_short h = record { outcome = rw (sym said ∙ e, ← is, lt-ltb (length buffer) (size + 6) h) }
 
     -- mark, word, data and checksum, put one after the other
     pub done : {l₁ l₂ l₃ l₄ : List ℕ} → l₁ ≡ put buffer 0 (bytes_of 2 0x3C3D) → l₂ ≡ put l₁ 2 (bytes_of 2 (tag_word address tag))
         → l₃ ≡ put l₂ 4 (bytes_of size value) → size + 6 ≤ length buffer → SealPromise l₃ (size + 4) l₄
-        → WritePromise buffer address tag value (W.Bytes (size + 6)) l₄
+        → WritePromise buffer address tag value (Ok (size + 6)) l₄
     unfolding write_means
     done p q r h s =
         record {

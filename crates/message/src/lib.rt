@@ -3,109 +3,103 @@
 
 mod parts;
 
-ghost use Rattle.std.specs.Prelude.{◌≡◌};
-ghost use Rattle.ground.specs.Paper.{number_of};
-ghost use Rattle.message.specs.Answers.{read_paper, written_paper};
+ghost use Rattle.message.specs.Answers.{not_read, not_written};
 ghost use Rattle.message.specs.Promise.{ReadPromise, WritePromise};
 
-use ground::{put_word, word_at};
-use parts::{data_size, number_at, put_number, sayable_as};
+use ground::{Numbered, put_word, word_at};
+use parts::{data_size, number_in, sayable_as};
 
-// What reading answers: a message with its address, its size tag, its value and the bytes that it used; a wrong mark; a
-// message that is cut short; a wrong checksum.
-#[derive(Clone, Copy)]
-pub enum MessageRead {
-    Message {
-        address: u16,
-        tag: u8,
-        value: u64,
-        used: usize,
-    },
+// A message that was read: its address, its size tag, its value and the bytes that it used.
+#[derive(Clone, Copy, Debug, PartialEq, Eq)]
+pub struct Message {
+    pub address: u16,
+    pub tag: u8,
+    pub value: u64,
+    pub used: usize,
+}
+
+// Why no message is read: a wrong mark; a message that is cut short; a wrong checksum.
+#[derive(Clone, Copy, Debug, PartialEq, Eq)]
+pub enum NotRead {
     WrongMark,
     CutShort,
     WrongChecksum,
 }
 
-// What writing answers: the bytes written; an address, a tag or bits outside the rule; a buffer that is too short.
-#[derive(Clone, Copy)]
-pub enum MessageWritten {
-    Bytes(usize),
+impl Numbered for NotRead {
+    ghost refusals = { not_read };
+
+    fn number(&self) -> u8 {
+        match *self {
+            NotRead::WrongMark => 4,
+            NotRead::CutShort => 5,
+            NotRead::WrongChecksum => 6,
+        }
+    }
+}
+
+// Why no message is written: an address, a tag or bits outside the rule; a buffer that is too short.
+#[derive(Clone, Copy, Debug, PartialEq, Eq)]
+pub enum NotWritten {
     OutsideRule,
     BufferTooShort,
 }
 
+impl Numbered for NotWritten {
+    ghost refusals = { not_written };
+
+    fn number(&self) -> u8 {
+        match *self {
+            NotWritten::OutsideRule => 7,
+            NotWritten::BufferTooShort => 3,
+        }
+    }
+}
+
 // The message at the front of the bytes; what follows it is ignored.
-pub fn read(bytes: &[u8]) -> MessageRead
+pub fn read(bytes: &[u8]) -> Result<Message, NotRead>
     ensures { ReadPromise bytes.now result }
 {
     if bytes.len() < 4 {
-        return MessageRead::CutShort;
+        return Err(NotRead::CutShort);
     }
     if bytes[0] != 0x3C {
-        return MessageRead::WrongMark;
+        return Err(NotRead::WrongMark);
     }
     if bytes[1] != 0x3D {
-        return MessageRead::WrongMark;
+        return Err(NotRead::WrongMark);
     }
     let word = word_at(bytes, 2);
     let tag = (word / 16384) as u8;
     let size = data_size(tag);
     if bytes.len() < size + 6 {
-        return MessageRead::CutShort;
+        return Err(NotRead::CutShort);
     }
     if !crc::sealed(bytes, 0, size + 4) {
-        return MessageRead::WrongChecksum;
+        return Err(NotRead::WrongChecksum);
     }
-    MessageRead::Message {
+    Ok(Message {
         address: word % 16384,
         tag,
-        value: number_at(bytes, 4, size),
+        value: number_in(&bytes[4..size + 4]),
         used: size + 6,
-    }
+    })
 }
 
 // Writes the message of an address, a size tag and a value at the front of the buffer, and answers its bytes.
-pub fn write(buffer: &mut [u8], address: u16, tag: u8, value: u64) -> MessageWritten
+pub fn write(buffer: &mut [u8], address: u16, tag: u8, value: u64) -> Result<usize, NotWritten>
     ensures { WritePromise buffer.old address tag value result buffer.new }
 {
     if !sayable_as(address, tag, value) {
-        return MessageWritten::OutsideRule;
+        return Err(NotWritten::OutsideRule);
     }
     let size = data_size(tag);
     if buffer.len() < size + 6 {
-        return MessageWritten::BufferTooShort;
+        return Err(NotWritten::BufferTooShort);
     }
     put_word(buffer, 0, 0x3C3D);
     put_word(buffer, 2, (tag as u16) * 16384 + address);
-    put_number(buffer, 4, size, value);
+    buffer[4..size + 4].copy_from_slice(&value.to_be_bytes()[8 - size..]);
     crc::seal(buffer, size + 4);
-    MessageWritten::Bytes(size + 6)
-}
-
-// The refusal number of reading, 0 where a message was read.
-pub fn read_number(answer: MessageRead) -> u8
-    ensures { result ≡ number_of (read_paper answer) }
-{
-    match answer {
-        MessageRead::Message {
-            address: _,
-            tag: _,
-            value: _,
-            used: _,
-        } => 0,
-        MessageRead::WrongMark => 4,
-        MessageRead::CutShort => 5,
-        MessageRead::WrongChecksum => 6,
-    }
-}
-
-// The refusal number of writing, 0 where the message was written.
-pub fn written_number(answer: MessageWritten) -> u8
-    ensures { result ≡ number_of (written_paper answer) }
-{
-    match answer {
-        MessageWritten::Bytes(_) => 0,
-        MessageWritten::OutsideRule => 7,
-        MessageWritten::BufferTooShort => 3,
-    }
+    Ok(size + 6)
 }

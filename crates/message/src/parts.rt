@@ -1,7 +1,6 @@
 // The parts of a message: its tests one by one, and its fields read from bytes and put into a buffer.
 ghost use Rattle.std.specs.Prelude.{◌≡◌, ◌+◌, ◌≤◌, ◌<◌, length, take, drop};
-ghost use Rattle.ground.specs.Words.{number, bytes_of};
-ghost use Rattle.ground.specs.Putting.{put};
+ghost use Rattle.ground.specs.Words.{number};
 ghost use Rattle.message.specs.Meaning.{data_size, sayable};
 
 // How many data bytes a size tag stands for.
@@ -32,37 +31,14 @@ pub(crate) fn sayable_as(address: u16, tag: u8, value: u64) -> bool
     }
 }
 
-// The number that up to eight bytes from a place on mean.
-pub(crate) fn number_at(bytes: &[u8], at: usize, count: usize) -> u64
-    requires { (at + count ≤ length bytes.now) × (count ≤ 8) }
-    ensures { result ≡ number (take count (drop at bytes.now)) }
+// The number that up to eight bytes mean.
+pub(crate) fn number_in(bytes: &[u8]) -> u64
+    requires { length bytes.now ≤ 8 }
+    ensures { result ≡ number bytes.now }
 {
-    let mut value: u64 = 0;
-    let mut i = 0;
-    while i < count {
-        value = value * 256 + wide(bytes[at + i]);
-        i += 1;
+    let mut value = 0;
+    for byte in bytes {
+        value = value * 256 + *byte as u64;
     }
     value
-}
-
-// A byte as a value.
-fn wide(x: u8) -> u64
-    ensures { (result ≡ x) × (result < 256) }
-{
-    x as u64
-}
-
-// Puts the bytes of a value at a place, the last of them first.
-pub(crate) fn put_number(buffer: &mut [u8], at: usize, count: usize, value: u64)
-    requires { at + count ≤ length buffer.old }
-    ensures { buffer.new ≡ put buffer.old at (bytes_of count value) }
-{
-    let mut left = count;
-    let mut rest = value;
-    while 0 < left {
-        left -= 1;
-        buffer[at + left] = (rest % 256) as u8;
-        rest /= 256;
-    }
 }

@@ -1,7 +1,8 @@
 -- `message::read` meets its contract: the tests one after the other.
 -- Assumes nothing.
+use mathlib.Core.Path.{◌∙◌}
 use borrow.Author.Rules.{rules}
-use Rattle.message.proofs.Reading.{under_four, wrong_first, wrong_second, cut_short, wrong_checksum, a_message}
+use Rattle.message.proofs.Reading.{under_four, wrong_first, wrong_second, cut_short, wrong_checksum, a_message, data_of}
 use Rattle.message.proofs.read.Goals as goal
 
 pub returns-then-bytes-lt4 : goal.returns-then-bytes-lt4
@@ -26,4 +27,5 @@ returns-then-not-sealed c =
 pub returns : goal.returns
 returns c =
     a_message (search rules) c.if-bytes-ne60.false c.if-bytes-ne61.false c.word_at-word.ensures c.data_size-size.ensures.0 (search rules)
-    c.sealed.ensures c.if-not-sealed.false c.number_at.ensures
+    c.sealed.ensures c.if-not-sealed.false
+    (c.number_in.ensures ∙ data_of c.args.bytes.now c.data_size-size.result)
