@@ -4,7 +4,7 @@
 ghost use Rattle.code.specs.Promise.{UnpackPromise};
 ghost use Rattle.reader.specs.Promise.{ReaderPromise};
 
-use code::Unpacked;
+use code::{Refusal, Unpacked};
 
 // A reader: the lent bytes and a bit position.
 #[derive(Clone, Copy)]
@@ -21,7 +21,7 @@ pub fn reader_at<'a>(bytes: &'a [u8], at: u64) -> Reader<'a>
 }
 
 // The code at a reader's position.
-pub fn next_code<'a>(r: Reader<'a>, drop: u8) -> Unpacked
+pub fn next_code<'a>(r: Reader<'a>, drop: u8) -> Result<Unpacked, Refusal>
     ensures { UnpackPromise r.entry.bytes.now r.entry.at drop result }
 {
     unpack::unpack(r.bytes, r.at, drop)
@@ -35,14 +35,14 @@ pub fn moved_to<'a>(r: Reader<'a>, at: u64) -> Reader<'a>
 }
 
 // A reader made at a position, moved to another and asked there: whoever calls this holds no reader.
-pub fn read_moved(bytes: &[u8], from: u64, to: u64, drop: u8) -> Unpacked
+pub fn read_moved(bytes: &[u8], from: u64, to: u64, drop: u8) -> Result<Unpacked, Refusal>
     ensures { UnpackPromise bytes.now to drop result }
 {
     next_code(moved_to(reader_at(bytes, from), to), drop)
 }
 
 // The code at a position, asked of a reader that stands there.
-pub fn read_at(bytes: &[u8], at: u64, drop: u8) -> Unpacked
+pub fn read_at(bytes: &[u8], at: u64, drop: u8) -> Result<Unpacked, Refusal>
     ensures { UnpackPromise bytes.now at drop result }
 {
     read_moved(bytes, at, at, drop)

@@ -25,10 +25,10 @@ use Rattle.code.specs.Missing.{behind_run, missing_after_sign, missing_computed,
 use Rattle.code.specs.Positions.{all_bits-bits_that_count}
 use Rattle.code.specs.Magnitudes.{places, magnitude_fits}
 use Rattle.code.specs.Theorems.{read_fits}
-use Rattle.code.specs.Answers.{shape_paper}
+use Rattle.code.specs.Answers.{shape_values}
 use Rattle.code.specs.Promise.{ShapePromise}
-use Rattle.code.specs.declared.ShapeAnswer.{ShapeAnswer}
-use Rattle.code.specs.declared.ShapeAnswer.TheVariants as S
+use Rattle.code.specs.declared.Shape.{Shape}
+use Rattle.std.specs.Prelude.{Ok}
 use Rattle.unpack.specs.Steps.{rest_answer, code_answer, sign_answer, run_answer, led_answer, zero_answer}
 
 -- ---- fields
@@ -362,15 +362,15 @@ module _ (bytes : List ℕ) (at d : ℕ) where
   pub shape_refuses : drop_known d ≡ false → refused 8 ≡ shape_means bytes at d
   shape_refuses t = ap (λ (b : Bool). pick b (position_means greatest_place bytes at d) (refused 8)) (sym t)
 
-  module _ {r : ShapeAnswer} (s m error next : ℕ) (p : ShapePromise bytes at d r) (e : r ≡ S.Shape s m error next) where
+  module _ (s : Shape) (p : ShapePromise bytes at d (Ok s)) where
     -- what was read, as the definitions have it
-    was_read : shape_means bytes at d ≡ accepted (record { sign = s; magnitude = m; error = error; next = next })
-    was_read = sym p.answer ∙ ap shape_paper e
+    was_read : shape_means bytes at d ≡ accepted (shape_values s)
+    was_read = sym p.answer
 
     -- its magnitude is inside the rule
-    pub read_small : m ≤ largest
+    pub read_small : s.magnitude ≤ largest
     read_small = (read_fits bytes at d was_read).in_rule_lem
 
     -- and its number is the call's
-    pub number_is : (v : ℤ) → v ≡ signed s m → accepted (record { value = v; next = next }) ≡ unpack_means bytes at d
-    number_is v q = ap (λ (z : ℤ). accepted (record { value = z; next = next })) q ∙ sym (ap (mapped number_read) was_read)
+    pub number_is : (v : ℤ) → v ≡ signed s.sign s.magnitude → accepted (record { value = v; next = s.next }) ≡ unpack_means bytes at d
+    number_is v q = ap (λ (z : ℤ). accepted (record { value = z; next = s.next })) q ∙ sym (ap (mapped number_read) was_read)

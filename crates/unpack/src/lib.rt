@@ -7,10 +7,10 @@ ghost use Rattle.std.specs.Prelude.{◌≡◌, ◌≤◌};
 ghost use Rattle.code.specs.Meaning.{signed, largest, past_end};
 ghost use Rattle.code.specs.Promise.{ShapePromise, UnpackPromise};
 
-use code::{Refusal, ShapeAnswer, Unpacked};
+use code::{Refusal, Shape, Unpacked};
 
 // The code at a bit position of bytes: its sign, its decoded magnitude, its error and the position after it.
-pub fn shape(bytes: &[u8], at: u64, drop: u8) -> ShapeAnswer
+pub fn shape(bytes: &[u8], at: u64, drop: u8) -> Result<Shape, Refusal>
     ensures { ShapePromise bytes.now at drop result }
 {
     if code::drop_known(drop) {
@@ -20,28 +20,19 @@ pub fn shape(bytes: &[u8], at: u64, drop: u8) -> ShapeAnswer
         }
         read::code(bytes, at, end, drop)
     } else {
-        ShapeAnswer::Refused(Refusal::OutsideRule)
+        Err(Refusal::OutsideRule)
     }
 }
 
 // The code at a bit position of bytes: its number and the position after it.
-pub fn unpack(bytes: &[u8], at: u64, drop: u8) -> Unpacked
+pub fn unpack(bytes: &[u8], at: u64, drop: u8) -> Result<Unpacked, Refusal>
     ensures { UnpackPromise bytes.now at drop result }
 {
-    let answer = shape(bytes, at, drop);
-    let ShapeAnswer::Shape {
-        sign,
-        magnitude,
-        error: _,
-        next,
-    } = answer
-    else {
-        return Unpacked::Refused(code::reason(answer));
-    };
-    Unpacked::Number {
-        value: with_sign(sign, magnitude),
-        next,
-    }
+    let read = shape(bytes, at, drop)?;
+    Ok(Unpacked {
+        value: with_sign(read.sign, read.magnitude),
+        next: read.next,
+    })
 }
 
 // Whether a position lies past the end of so many bits; every position from 2^63 on does.

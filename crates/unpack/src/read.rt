@@ -8,7 +8,7 @@ ghost use Rattle.code.specs.Shapes.{Drop};
 ghost use Rattle.code.specs.Answers.{shape_paper};
 ghost use Rattle.unpack.specs.Steps.{code_answer, sign_answer, run_answer, led_answer, zero_answer, Place, LedPlace};
 
-use code::{GREATEST_PLACE, LONGEST_RUN, Refusal, ShapeAnswer};
+use code::{GREATEST_PLACE, LONGEST_RUN, Refusal, Shape};
 
 // The bit at a position that counts.
 fn bit(bytes: &[u8], at: u64) -> u8
@@ -28,7 +28,7 @@ fn bit_wide(bytes: &[u8], at: u64) -> u32
 }
 
 // The code at a position; at the end itself no bit is left.
-pub(crate) fn code(bytes: &[u8], at: u64, end: u64, drop: u8) -> ShapeAnswer
+pub(crate) fn code(bytes: &[u8], at: u64, end: u64, drop: u8) -> Result<Shape, Refusal>
     requires { Place bytes.now at end drop }
     ensures { shape_paper result ≡ code_answer drop end (dropped at (bits_that_count bytes.now)) }
 {
@@ -36,12 +36,12 @@ pub(crate) fn code(bytes: &[u8], at: u64, end: u64, drop: u8) -> ShapeAnswer
         return ran_out(1);
     }
     if bit(bytes, at) == 0 {
-        return ShapeAnswer::Shape {
+        return Ok(Shape {
             sign: 0,
             magnitude: 0,
             error: where_dropped(drop, 3),
             next: at + 1,
-        };
+        });
     }
     if end <= at + 1 {
         return ran_out(6 - code::wide(drop));
@@ -51,11 +51,11 @@ pub(crate) fn code(bytes: &[u8], at: u64, end: u64, drop: u8) -> ShapeAnswer
 }
 
 // Bits ran out: the refusal, with the least number of bits that are missing.
-pub(crate) fn ran_out(missing: u32) -> ShapeAnswer
+pub(crate) fn ran_out(missing: u32) -> Result<Shape, Refusal>
     requires { missing ≤ 15 }
     ensures { shape_paper result ≡ refused_with 9 missing }
 {
-    ShapeAnswer::Refused(Refusal::RanOut {
+    Err(Refusal::RanOut {
         missing: missing as u8,
     })
 }
@@ -83,7 +83,7 @@ fn where_dropped(drop: u8, error: u32) -> u32
 }
 
 // What follows the sign: a run of ones and its zero, then the rest.
-fn after_sign(bytes: &[u8], at: u64, end: u64, drop: u8, sign: u32) -> ShapeAnswer
+fn after_sign(bytes: &[u8], at: u64, end: u64, drop: u8, sign: u32) -> Result<Shape, Refusal>
     requires { Place bytes.now at end drop × (sign < 2) }
     ensures { shape_paper result ≡ sign_answer drop end sign 0 (dropped at (bits_that_count bytes.now)) }
 {
@@ -94,7 +94,7 @@ fn after_sign(bytes: &[u8], at: u64, end: u64, drop: u8, sign: u32) -> ShapeAnsw
             return after_run(bytes, here + 1, end, drop, sign, ones);
         }
         if LONGEST_RUN <= ones {
-            return ShapeAnswer::Refused(Refusal::RunTooLong);
+            return Err(Refusal::RunTooLong);
         }
         ones += 1;
         here += 1;
@@ -103,7 +103,14 @@ fn after_sign(bytes: &[u8], at: u64, end: u64, drop: u8, sign: u32) -> ShapeAnsw
 }
 
 // What follows a run of ones and its zero.
-fn after_run(bytes: &[u8], at: u64, end: u64, drop: u8, sign: u32, ones: u32) -> ShapeAnswer
+fn after_run(
+    bytes: &[u8],
+    at: u64,
+    end: u64,
+    drop: u8,
+    sign: u32,
+    ones: u32,
+) -> Result<Shape, Refusal>
     requires { Place bytes.now at end drop × (sign < 2) × (ones ≤ longest_run greatest_place) }
     ensures { shape_paper result ≡ run_answer drop end sign ones (dropped at (bits_that_count bytes.now)) }
 {
@@ -118,14 +125,14 @@ fn after_run(bytes: &[u8], at: u64, end: u64, drop: u8, sign: u32, ones: u32) ->
     }
     let place = 2 * ones + 1 + bit_wide(bytes, at);
     if GREATEST_PLACE < place {
-        return ShapeAnswer::Refused(Refusal::RunTooLong);
+        return Err(Refusal::RunTooLong);
     }
     let width = ones + 1 - code::wide(drop);
     led(bytes, at + 1, end, drop, sign, place, width)
 }
 
 // A magnitude under 16: its field, drop 0's redundant zero and drop 3's 5.
-fn small(bytes: &[u8], at: u64, end: u64, drop: u8, sign: u32) -> ShapeAnswer
+fn small(bytes: &[u8], at: u64, end: u64, drop: u8, sign: u32) -> Result<Shape, Refusal>
     requires { Place bytes.now at end drop × (sign < 2) }
     ensures { shape_paper result ≡ run_answer drop end sign 0 (dropped at (bits_that_count bytes.now)) }
 {
@@ -140,31 +147,39 @@ fn small(bytes: &[u8], at: u64, end: u64, drop: u8, sign: u32) -> ShapeAnswer
     if x == 0 {
         return small_zero(drop, sign, next);
     }
-    ShapeAnswer::Shape {
+    Ok(Shape {
         sign,
         magnitude: fill(x, left),
         error: where_dropped(drop, 4),
         next,
-    }
+    })
 }
 
 // A small field of zeros.
-fn small_zero(drop: u8, sign: u32, next: u64) -> ShapeAnswer
+fn small_zero(drop: u8, sign: u32, next: u64) -> Result<Shape, Refusal>
     ensures { shape_paper result ≡ zero_answer drop sign next }
 {
     if drop == 0 {
-        return ShapeAnswer::Refused(Refusal::RedundantZero);
+        return Err(Refusal::RedundantZero);
     }
-    ShapeAnswer::Shape {
+    Ok(Shape {
         sign,
         magnitude: 5,
         error: 4,
         next,
-    }
+    })
 }
 
 // A magnitude with its leading one at a place: the field below it, of so many bits, and what is left out filled in.
-fn led(bytes: &[u8], at: u64, end: u64, drop: u8, sign: u32, place: u32, width: u32) -> ShapeAnswer
+fn led(
+    bytes: &[u8],
+    at: u64,
+    end: u64,
+    drop: u8,
+    sign: u32,
+    place: u32,
+    width: u32,
+) -> Result<Shape, Refusal>
     requires { LedPlace bytes.now at end drop sign place width }
     ensures { shape_paper result ≡ led_answer drop end sign place (dropped at (bits_that_count bytes.now)) }
 {
@@ -174,12 +189,12 @@ fn led(bytes: &[u8], at: u64, end: u64, drop: u8, sign: u32, place: u32, width: 
     }
     let x = field(bytes, at, width);
     let left = place - width;
-    ShapeAnswer::Shape {
+    Ok(Shape {
         sign,
         magnitude: code::power(place) + fill(x, left),
         error: code::power(left - 1),
         next: at + width as u64,
-    }
+    })
 }
 
 // The number of a field of so many bits.
