@@ -1,23 +1,42 @@
--- What sending answers as document 01 has it, and the way back.
+-- What sending answers as document 01 has it, and its refusals.
 -- Assumes nothing.
-use Rattle.std.specs.Prelude.{◌≡◌, refl, ℕ, eqb}
+use Rattle.std.specs.Prelude.{◌≡◌, refl, [], ℕ, eqb, Result, Ok, Err}
 use Rattle.ground.specs.Choice.{pick}
-use Rattle.ground.specs.Paper.{Paper, accepted, refusal, refused}
-use Rattle.item.specs.declared.Sent.{Sent}
+use Rattle.ground.specs.Paper.{Paper}
+use Rattle.ground.specs.Refusals.{Refusals, on_paper}
+use Rattle.code.specs.declared.NotPacked.{NotPacked}
+use Rattle.code.specs.declared.NotPacked.TheVariants as P
+use Rattle.item.specs.declared.NotSent.{NotSent}
+use Rattle.item.specs.declared.NotSent.TheVariants.{TooLarge, TooShort}
+
+-- why nothing was sent: 12 or 3
+abbrev pub not_sent_number : NotSent → ℕ
+not_sent_number TooLarge = 12
+not_sent_number TooShort = 3
+
+-- the refusal of sending that has a number
+abbrev pub not_sent_back : ℕ → NotSent
+not_sent_back n = pick (eqb n 12) TooLarge TooShort
+
+-- no two refusals of sending have one number
+pub not_sent_home : (why : NotSent) → not_sent_back (not_sent_number why) ≡ why
+not_sent_home TooLarge = refl
+not_sent_home TooShort = refl
+
+-- the refusals of sending
+abbrev pub not_sent : Refusals NotSent
+not_sent = record { number = not_sent_number; carried = λ why. []; back = λ n carried. not_sent_back n; home = not_sent_home }
 
 -- the next position; 12 or 3
-abbrev pub sent_paper : Sent → Paper ℕ
-sent_paper (Sent.Next next) = accepted next
-sent_paper Sent.TooLarge = refused 12
-sent_paper Sent.TooShort = refused 3
+abbrev pub sent_paper : Result ℕ NotSent → Paper ℕ
+sent_paper = on_paper not_sent
 
--- the answer that a paper came from
-abbrev pub sent_back : Paper ℕ → Sent
-sent_back (accepted next) = Sent.Next next
-sent_back (refusal n carried) = pick (eqb n 12) Sent.TooLarge Sent.TooShort
+-- a refusal of writing, as the refusal of sending; no format that is sent asks for bits outside the rule
+abbrev pub unsent : NotPacked → NotSent
+unsent P.OutsideRule = TooLarge
+unsent P.TooShort = TooShort
 
--- no two answers of sending read the same on paper
-pub sent_home : (a : Sent) → sent_back (sent_paper a) ≡ a
-sent_home (Sent.Next next) = refl
-sent_home Sent.TooLarge = refl
-sent_home Sent.TooShort = refl
+-- what writing answered, as the answer of sending
+abbrev pub sent_of : Result ℕ NotPacked → Result ℕ NotSent
+sent_of (Ok next) = Ok next
+sent_of (Err why) = Err (unsent why)

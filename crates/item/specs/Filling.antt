@@ -1,6 +1,6 @@
 -- Bytes filled with bits from the front, the others 0: what a caller keeps who sends one item's bits after the other.
 -- Assumes nothing.
-use Rattle.std.specs.Prelude.{◌≡◌, refl, Bool, true, false, List, [], ◌∷◌, ◌++◌, ℕ, zero, suc, ◌+◌, ◌*◌, ◌-◌, ◌/◌, ◌^◌, ◌≤◌, length, take, drop, set, replicate}
+use Rattle.std.specs.Prelude.{◌≡◌, refl, Bool, true, false, List, [], ◌∷◌, ◌++◌, ℕ, zero, suc, ◌+◌, ◌*◌, ◌-◌, ◌/◌, ◌^◌, ◌≤◌, length, take, drop, set, replicate, Result, Ok, Err}
 use Rattle.std.proofs.Common.{sym, ap, ap₂, ◌∙◌, subst, append_assoc, append-nil, zero-lt-suc, arith, length-append, length-take, pow_mono, take_at, drop_at}
 use Rattle.std.proofs.Common.{length-take-le, le-leb}
 use Rattle.std.proofs.lemmas.List.{length-replicate, replicate-append-replicate}
@@ -9,16 +9,18 @@ use Rattle.ground.specs.Bits.{to_bits, bits_of}
 use Rattle.ground.specs.Bytes.{Bytes, bytes_take}
 use Rattle.ground.specs.Choice.{pick}
 use Rattle.ground.specs.Outcome.{Outcome, outcome_of, accept, refuse}
-use Rattle.ground.specs.Paper.{Paper, accepted, refusal, refused, accepted_same, refused_not, one_answer}
+use Rattle.ground.specs.Paper.{Paper, accepted, refusal, refused, accepted_same, refused_not}
+use Rattle.ground.specs.Refusals.{one_result}
 use Rattle.code.specs.BitLists.{all_bits, all_bits-append, all_bits-take, all_bits-drop, all_bits-to_bits, from_bits_lt, length-bits_of, to_bits-zeros}
 use Rattle.code.specs.Meaning.{bits_that_count, bytes_from, bytes_with, padded, place_means, put_at, to_byte_end}
 use Rattle.code.specs.Positions.{bytes_back, length-bits_that_count, length-bytes_from}
 use Rattle.code.specs.Theorems.{put_bits}
-use Rattle.item.specs.Answers.{sent_paper, sent_back, sent_home}
+use Rattle.item.specs.Answers.{not_sent, sent_paper}
 use Rattle.item.specs.Bits.{most_bits, bits_few, bits_bits, bits_refused, send_puts, send_nothing, send_refuses}
 use Rattle.item.specs.Meaning.{sends_of, item_bits, bytes_of_bits, send_means}
 use Rattle.item.specs.Promise.{SendPromise}
-use Rattle.item.specs.declared.Sent.{Sent}
+use Rattle.item.specs.declared.NotSent.{NotSent}
+use Rattle.item.specs.declared.NotSent.TheVariants.{TooLarge, TooShort}
 
 -- so many zeros
 abbrev pub zeros : ℕ → List ℕ
@@ -111,22 +113,22 @@ filled_put bytes l code f fine room =
 -- ---- an item's bits sent
 
 -- the answer and the bytes of a sending that is accepted
-accepted_so : {bytes after : List ℕ} {at x r next : ℕ} {s : Sent} {left : List ℕ} → SendPromise bytes at x r s after
+accepted_so : {bytes after : List ℕ} {at x r next : ℕ} {s : Result ℕ NotSent} {left : List ℕ} → SendPromise bytes at x r s after
     → send_means bytes at x r ≡ accept next left
-    → (s ≡ Sent.Next next) × (after ≡ left)
+    → (s ≡ Ok next) × (after ≡ left)
 accepted_so p e = (
-  one_answer sent_paper sent_back sent_home (ap (λ (o : Outcome ℕ (List ℕ)). o.answer) (p.outcome ∙ e)) refl,
+  one_result not_sent (ap (λ (o : Outcome ℕ (List ℕ)). o.answer) (p.outcome ∙ e)) refl,
   ap (λ (o : Outcome ℕ (List ℕ)). o.leaves) (p.outcome ∙ e),
 )
 
 -- what an item's bits, sent right after those that are there, answer and leave: the position after them, and bytes filled with them too
-pub record SentAfter (bytes l code : List ℕ) (s : Sent) (after : List ℕ) : Type 0 where
-  pub next : s ≡ Sent.Next (length l + length code)
+pub record SentAfter (bytes l code : List ℕ) (s : Result ℕ NotSent) (after : List ℕ) : Type 0 where
+  pub next : s ≡ Ok (length l + length code)
   pub filled : Filled after (l ++ code)
   pub long : length after ≡ length bytes
 
 -- so it is where the item is not refused and its bits fit
-pub filled_more : {bytes l code after : List ℕ} {at x r : ℕ} {s : Sent} → SendPromise bytes at x r s after → Filled bytes l → at ≡ length l
+pub filled_more : {bytes l code after : List ℕ} {at x r : ℕ} {s : Result ℕ NotSent} → SendPromise bytes at x r s after → Filled bytes l → at ≡ length l
     → item_bits x r ≡ accepted code → length l + length code ≤ 8 * length bytes → length bytes ≤ 2 ^ 60 → SentAfter bytes l code s after
 filled_more {bytes} {l} {code} {after} {at} {x} {r} {s} p f here e room small = go (sends_of x) refl
   where
@@ -150,21 +152,21 @@ filled_more {bytes} {l} {code} {after} {at} {x} {r} {s} p f here e room small = 
         let same : at ≡ length l + length code = omega (arith, here, ap length empty) in
         let whole : l ≡ l ++ code = sym (append-nil l) ∙ ap (λ (k : List ℕ). l ++ k) (sym empty) in
         record {
-          next = o.0 ∙ ap Sent.Next same;
+          next = o.0 ∙ ap (λ (n : ℕ). Ok n) same;
           filled = subst (λ (k : List ℕ). Filled k (l ++ code)) (sym o.1) (subst (Filled bytes) whole f);
           long = ap length o.1;
         }
 
 -- where the item is refused, it is by 12, and the bytes are as they were
-pub filled_stays : {bytes after carried : List ℕ} {at x r n : ℕ} {s : Sent} → SendPromise bytes at x r s after → item_bits x r ≡ refusal n carried
-    → (s ≡ Sent.TooLarge) × (item_bits x r ≡ refused 12) × (after ≡ bytes)
+pub filled_stays : {bytes after carried : List ℕ} {at x r n : ℕ} {s : Result ℕ NotSent} → SendPromise bytes at x r s after → item_bits x r ≡ refusal n carried
+    → (s ≡ Err TooLarge) × (item_bits x r ≡ refused 12) × (after ≡ bytes)
 filled_stays {bytes} {after} {carried} {at} {x} {r} {n} {s} p e = go (sends_of x) refl
   where
-    go : (t : Bool) → sends_of x ≡ t → (s ≡ Sent.TooLarge) × (item_bits x r ≡ refused 12) × (after ≡ bytes)
+    go : (t : Bool) → sends_of x ≡ t → (s ≡ Err TooLarge) × (item_bits x r ≡ refused 12) × (after ≡ bytes)
     go true t =
         let twelve : item_bits x r ≡ refused 12 = bits_refused x r e in
         let o : outcome_of (sent_paper s) after ≡ refuse 12 bytes = p.outcome ∙ send_refuses bytes at x r t twelve in (
-          one_answer sent_paper sent_back sent_home (ap (λ (u : Outcome ℕ (List ℕ)). u.answer) o) refl,
+          one_result not_sent (ap (λ (u : Outcome ℕ (List ℕ)). u.answer) o) refl,
           twelve,
           ap (λ (u : Outcome ℕ (List ℕ)). u.leaves) o,
         )
@@ -180,13 +182,13 @@ pub record SentBits (bytes l : List ℕ) (x r next : ℕ) (after : List ℕ) : T
   pub long : length after ≡ length bytes
 
 -- what an answer tells, where the most bits of an item have room
-abbrev pub Tells : List ℕ → List ℕ → ℕ → ℕ → List ℕ → Sent → Type 0
-Tells bytes l x r after (Sent.Next next) = SentBits bytes l x r next after
-Tells bytes l x r after Sent.TooLarge = (item_bits x r ≡ refused 12) × (after ≡ bytes)
-Tells bytes l x r after Sent.TooShort = ⊥
+abbrev pub Tells : List ℕ → List ℕ → ℕ → ℕ → List ℕ → Result ℕ NotSent → Type 0
+Tells bytes l x r after (Ok next) = SentBits bytes l x r next after
+Tells bytes l x r after (Err TooLarge) = (item_bits x r ≡ refused 12) × (after ≡ bytes)
+Tells bytes l x r after (Err TooShort) = ⊥
 
 -- so it tells
-pub sent_tells : {bytes l after : List ℕ} {at x r : ℕ} {s : Sent} → SendPromise bytes at x r s after → Filled bytes l → at ≡ length l
+pub sent_tells : {bytes l after : List ℕ} {at x r : ℕ} {s : Result ℕ NotSent} → SendPromise bytes at x r s after → Filled bytes l → at ≡ length l
     → length l + most_bits ≤ 8 * length bytes → length bytes ≤ 2 ^ 60 → Tells bytes l x r after s
 sent_tells {bytes} {l} {after} {at} {x} {r} {s} p f here room small = go (item_bits x r) refl
   where

@@ -1,20 +1,21 @@
 -- Two outcomes that meet a call's promise are equal, answer and buffer, and a refusal leaves the buffer.
 -- Assumes nothing.
-use Rattle.std.specs.Prelude.{◌≡◌, refl, Bool, List, ℕ}
+use Rattle.std.specs.Prelude.{◌≡◌, refl, Bool, List, ℕ, Result}
 use Rattle.ground.specs.Choice.{pick_elim}
-use Rattle.ground.specs.Outcome.{accept, onward_to, Stays, outcome_one}
+use Rattle.ground.specs.Outcome.{accept, onward_to, Stays}
 use Rattle.ground.specs.Paper.{Paper, paper_elim, one_value}
+use Rattle.ground.specs.Refusals.{one_outcome}
 use Rattle.code.specs.Meaning.{place_means}
 use Rattle.pack.specs.OneOutcome.{place_stays}
 use Rattle.pages.specs.declared.Window.{Window}
-use Rattle.item.specs.Answers.{sent_paper, sent_back, sent_home}
+use Rattle.item.specs.Answers.{not_sent}
 use Rattle.item.specs.Meaning.{window_of, plain_of, adds_of, sends_of, comp_of, format_bits, format_means, send_means}
 use Rattle.item.specs.Promise.{SendPromise}
-use Rattle.item.specs.declared.Sent.{Sent}
+use Rattle.item.specs.declared.NotSent.{NotSent}
 
 -- sending has one outcome
-pub send_one : {buffer : List ℕ} {at x r : ℕ} {s t : Sent} {a b : List ℕ} → SendPromise buffer at x r s a → SendPromise buffer at x r t b → (s ≡ t) × (a ≡ b)
-send_one p q = outcome_one sent_paper sent_back sent_home p.outcome q.outcome
+pub send_one : {buffer : List ℕ} {at x r : ℕ} {s t : Result ℕ NotSent} {a b : List ℕ} → SendPromise buffer at x r s a → SendPromise buffer at x r t b → (s ≡ t) × (a ≡ b)
+send_one p q = one_outcome not_sent p.outcome q.outcome
 
 -- one window for an item
 pub window_of_one : (x : ℕ) {a b : Window} → a ≡ window_of x → b ≡ window_of x → a ≡ b

@@ -1,20 +1,56 @@
 // The items of a packet's table: the fields of an item's word, and the bits that its result is sent in.
 #![tactic(auto)]
 
-mod formats;
-
 ghost use Rattle.std.specs.Prelude.{◌≡◌, ◌<◌, ◌≤◌, ◌^◌};
 ghost use Rattle.item.specs.Meaning.{field_of, flag_of, window_of, plain_of, adds_of, sends_of};
+ghost use Rattle.item.specs.Answers.{not_sent, unsent};
 ghost use Rattle.item.specs.Promise.{SendPromise};
+ghost use Rattle.item.specs.declared.NotSent.TheVariants.{TooLarge as Large};
 
+use code::NotPacked;
+use format::TooLarge;
+use ground::Numbered;
 use pages::Window;
 
-// What sending an item's result answers: the next bit position, or why nothing was written.
-#[derive(Clone, Copy)]
-pub enum Sent {
-    Next(u64),
+mod formats;
+
+// Why an item's result was not sent: too large for its format, or a buffer too short for its bits.
+#[derive(Clone, Copy, Debug, PartialEq, Eq)]
+pub enum NotSent {
     TooLarge,
     TooShort,
+}
+
+impl Numbered for NotSent {
+    ghost refusals = { not_sent };
+
+    fn number(&self) -> u8 {
+        match self {
+            NotSent::TooLarge => 12,
+            NotSent::TooShort => 3,
+        }
+    }
+}
+
+// A result too large for its format is not sent.
+impl From<TooLarge> for NotSent {
+    ghost from_gives = { λ _ e. e ≡ Large };
+
+    fn from(_why: TooLarge) -> NotSent {
+        NotSent::TooLarge
+    }
+}
+
+// Nor is one whose bits were not written: outside the rule of packing is too large for the format.
+impl From<NotPacked> for NotSent {
+    ghost from_gives = { λ why e. e ≡ unsent why };
+
+    fn from(why: NotPacked) -> NotSent {
+        match why {
+            NotPacked::OutsideRule => NotSent::TooLarge,
+            NotPacked::TooShort => NotSent::TooShort,
+        }
+    }
 }
 
 // The window that an item sums.
@@ -55,13 +91,13 @@ pub fn sends(item: u64) -> bool
 }
 
 // An item's result put into a buffer from a bit position on, in the item's format, where it is sent.
-pub fn send(buffer: &mut [u8], at: u64, item: u64, res: u64) -> Sent
+pub fn send(buffer: &mut [u8], at: u64, item: u64, res: u64) -> Result<u64, NotSent>
     ensures { SendPromise buffer.old at item res result buffer.new }
 {
     if sends(item) {
         formats::send_as(buffer, at, field(item, 18, 2), res)
     } else {
-        Sent::Next(at)
+        Ok(at)
     }
 }
 

@@ -1,29 +1,46 @@
 -- `item::formats::send_as` meets its contract: each comp has its format.
 -- Assumes nothing.
-use Rattle.item.proofs.Sending.{format_at, format_rest}
+use borrow.Author.Rules.{rules}
+use Rattle.std.proofs.lemmas.Result.{err_from_is_err_and}
+use Rattle.item.proofs.Sending.{format_put, format_large, format_rest, float_known, logarithm_known, integer_known}
 use Rattle.item.proofs.formats.send_as.Goals as goal
 
-pub returns-in-0 : goal.returns-in-0
-returns-in-0 c =
+pub returns-in_err-float16_code-in-0 : goal.returns-in_err-float16_code-in-0
+returns-in_err-float16_code-in-0 c =
     let a = c.args in
-    format_at a.buffer.now a.at a.comp a.res 0 c.send_float.new.buffer c.send_float.result c.in-0.is
-    c.send_float.ensures
+    format_large a.buffer.now a.at a.comp a.res 0 c.in-0.is (float_known a.res c.in_err-float16_code-in-0.ensures) (search rules)
 
-pub returns-in-1 : goal.returns-in-1
-returns-in-1 c =
+pub returns-in_ok-float16_code-in-0 : goal.returns-in_ok-float16_code-in-0
+returns-in_ok-float16_code-in-0 c =
     let a = c.args in
-    format_at a.buffer.now a.at a.comp a.res 1 c.send_logarithm.new.buffer c.send_logarithm.result c.in-1.is
-    c.send_logarithm.ensures
+    format_put a.buffer.now a.at a.comp a.res 0 c.in-0.is (float_known a.res c.in_ok-float16_code-in-0.ensures) (rw (c.from.ensures) at c.put.ensures)
 
-pub returns-in-2 : goal.returns-in-2
-returns-in-2 c =
+pub returns-in_err-pack_count-in_default : goal.returns-in_err-pack_count-in_default
+returns-in_err-pack_count-in_default c =
     let a = c.args in
-    format_at a.buffer.now a.at a.comp a.res 2 c.send_integer.new.buffer c.send_integer.result c.in-2.is
-    c.send_integer.ensures
+    format_rest a.buffer.now a.at a.comp a.res (search rules) (search rules) (search rules) c.in_err-pack_count-in_default.ensures (search rules)
 
-pub returns-in_default : goal.returns-in_default
-returns-in_default c =
+pub returns-in_ok-pack_count-in_default : goal.returns-in_ok-pack_count-in_default
+returns-in_ok-pack_count-in_default c =
     let a = c.args in
-    let r = c.in_default.in_default-own.rest in
-    format_rest a.buffer.now a.at a.comp a.res c.send_packed.new.buffer c.send_packed.result r.0.0.1 r.0.1 r.1
-    c.send_packed.ensures
+    format_rest a.buffer.now a.at a.comp a.res (search rules) (search rules) (search rules) c.in_ok-pack_count-in_default.ensures (search rules)
+
+pub returns-in_err-log8_code-in-1 : goal.returns-in_err-log8_code-in-1
+returns-in_err-log8_code-in-1 c =
+    let a = c.args in
+    format_large a.buffer.now a.at a.comp a.res 1 c.in-1.is (logarithm_known a.res c.in_err-log8_code-in-1.ensures) (search rules)
+
+pub returns-in_ok-log8_code-in-1 : goal.returns-in_ok-log8_code-in-1
+returns-in_ok-log8_code-in-1 c =
+    let a = c.args in
+    format_put a.buffer.now a.at a.comp a.res 1 c.in-1.is (logarithm_known a.res c.in_ok-log8_code-in-1.ensures) (rw (c.from-in-1.ensures) at c.put-in-1.ensures)
+
+pub returns-in_err-int24_code-in-2 : goal.returns-in_err-int24_code-in-2
+returns-in_err-int24_code-in-2 c =
+    let a = c.args in
+    format_large a.buffer.now a.at a.comp a.res 2 c.in-2.is (integer_known a.res c.in_err-int24_code-in-2.ensures) (search rules)
+
+pub returns-in_ok-int24_code-in-2 : goal.returns-in_ok-int24_code-in-2
+returns-in_ok-int24_code-in-2 c =
+    let a = c.args in
+    format_put a.buffer.now a.at a.comp a.res 2 c.in-2.is (integer_known a.res c.in_ok-int24_code-in-2.ensures) c.put-in-2.ensures
