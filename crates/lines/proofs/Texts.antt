@@ -17,16 +17,18 @@ use Rattle.ground.specs.Putting.{Copied, copied_all, copied_none, copied_more}
 use Rattle.code.specs.BitLists.{length-bits_of}
 use Rattle.code.specs.Positions.{get_or-bits_of, length-bits_that_count, length-bytes_from}
 use Rattle.ground.specs.Outcome.{Outcome, outcome_of, accept}
-use Rattle.code.specs.Answers.{packed_paper}
+use Rattle.code.specs.Answers.{packed_paper, not_packed}
 use Rattle.code.specs.Promise.{PackPromise}
 use Rattle.code.specs.Meaning.{greatest_place, largest, longest_code, code_of, sign_of, shape_of_number, bytes_with, put_at, pack_means, bits_that_count}
 use Rattle.code.specs.Shapes.{Drop, drop_is_known}
 use Rattle.code.specs.Magnitudes.{places, number_valid}
 use Rattle.code.specs.Theorems.{packs, put_stands, all_bits_shape}
-use Rattle.code.specs.declared.Packed.{Packed}
+use Rattle.code.specs.declared.NotPacked.{NotPacked}
+use Rattle.std.specs.Prelude.{Result, Ok}
+use Rattle.ground.specs.Refusals.{off_paper, off_on_paper}
 use Rattle.io.specs.Digits.{hex_digit_ascii, last_digits, IsDigitCount}
 use Rattle.lines.specs.Meaning.{shortest, value_text, code_text, number_text}
-use Rattle.lines.specs.Texts.{Put, put_then, put_fits, put_ends, next_of, code_few, code_text_few, value_few}
+use Rattle.lines.specs.Texts.{Put, put_then, put_fits, put_ends, code_few, code_text_few, value_few}
 
 -- the digits of the first bits of bytes
 abbrev pub bit_text : List ℕ → ℕ → List ℕ
@@ -144,8 +146,8 @@ value_plus {room} {after} {at} {r} w v e sign m t p =
 
 -- ---- a code
 
-module _ {buffer left : List ℕ} {w v : ℤ} {d k : ℕ} {packed : Packed} (four : length buffer ≡ 4) (e : w ≡ v) (small : nat_abs v ≤ largest) (dr : Drop d)
-    (p : PackPromise buffer 0 w d packed left) (n : k ≡ next_of (packed_paper packed)) where
+module _ {buffer left : List ℕ} {w v : ℤ} {d : ℕ} {packed : Result ℕ NotPacked} (four : length buffer ≡ 4) (e : w ≡ v) (small : nat_abs v ≤ largest)
+    (dr : Drop d) (p : PackPromise buffer 0 w d packed left) where
   -- four bytes have room for a code
   with_room : 0 + length (code_of d v) ≤ length (bits_that_count buffer)
   with_room = omega (arith, length-bits_that_count buffer, code_few d v dr small)
@@ -159,27 +161,36 @@ module _ {buffer left : List ℕ} {w v : ℤ} {d k : ℕ} {packed : Packed} (fou
   leaves = ap (λ (o : Outcome ℕ (List ℕ)). o.leaves) outcome
 
   -- the next position is the length of the code
-  pub code_next : k ≡ length (code_of d v)
-  code_next = n ∙ ap (λ (o : Outcome ℕ (List ℕ)). next_of o.answer) outcome ∙ zero-add (length (code_of d v))
+  pub code_next : packed ≡ Ok (length (code_of d v))
+  code_next =
+      sym (off_on_paper not_packed packed)
+      ∙ ap (λ (o : Outcome ℕ (List ℕ)). off_paper not_packed o.answer) outcome
+      ∙ ap (λ (n : ℕ). Ok n) (zero-add (length (code_of d v)))
 
   -- the bytes are still four
   pub code_left : length left ≡ 4
   code_left = ap length leaves ∙ length-bytes_from (length buffer) (put_at (bits_of buffer) 0 (code_of d v)) ∙ four
 
   -- the first bits are the code
-  code_bits : bit_text left k ≡ code_text d v
+  code_bits : bit_text left (length (code_of d v)) ≡ code_text d v
   code_bits =
-      ap₂ bit_text leaves code_next
+      ap (λ (l : List ℕ). bit_text l (length (code_of d v))) leaves
       ∙ ap (map (λ b. 48 + b))
       (put_stands buffer 0 (code_of d v) with_room (all_bits_shape d (shape_of_number d v) (number_valid greatest_place places d v dr small)))
 
-  -- what putting the bits asks
-  pub code_asks : (at size : ℕ) → at + 32 ≤ size → (at + k ≤ size) × (k ≤ 32) × (length left ≡ 4)
-  code_asks at size h = (omega (arith, code_next, code_few d v dr small), omega (arith, code_next, code_few d v dr small), code_left)
+  module _ {k : ℕ} (n : packed ≡ Ok k) where
+    -- so many bits
+    many : k ≡ length (code_of d v)
+    many = let asked = code_next in cc
 
-  -- the bits that were put are the code
-  pub code_put : {room after : List ℕ} {at r : ℕ} → Put room at (bit_text left k) r after → Put room at (code_text d v) r after
-  code_put {room} {after} {at} {r} q = subst (λ (l : List ℕ). Put room at l r after) code_bits q
+    -- what putting the bits asks
+    pub code_asks : (at size : ℕ) → at + 32 ≤ size → (at + k ≤ size) × (k ≤ 32) × (length left ≡ 4)
+    code_asks at size h = (omega (arith, many, code_few d v dr small), omega (arith, many, code_few d v dr small), code_left)
+
+    -- the bits that were put are the code
+    pub code_put : {room after : List ℕ} {at r : ℕ} → Put room at (bit_text left k) r after → Put room at (code_text d v) r after
+    code_put {room} {after} {at} {r} q =
+        subst (λ (l : List ℕ). Put room at l r after) (ap (bit_text left) many ∙ code_bits) q
 
 -- ---- a line of a number
 

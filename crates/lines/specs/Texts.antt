@@ -4,7 +4,6 @@ use Rattle.std.specs.Prelude.{◌≡◌, refl, List, [], ◌∷◌, ◌++◌, �
 use Rattle.std.proofs.Common.{sym, ap, ap₂, ◌∙◌, subst, append_assoc, zero-le, add-zero, arith, length-append, take-append-drop, length-take-le}
 use Rattle.std.proofs.lemmas.List.{length-map}
 use Rattle.ground.specs.Choice.{pick_elim}
-use Rattle.ground.specs.Paper.{Paper, accepted, refusal}
 use Rattle.ground.specs.Putting.{put, put_next}
 use Rattle.code.specs.Meaning.{code_of, shape_of_number, greatest_place, largest, longest_code, sign_of}
 use Rattle.code.specs.Shapes.{Drop, none, three, bits_few}
@@ -16,11 +15,6 @@ pub record Put (room : List ℕ) (at : ℕ) (text : List ℕ) (next : ℕ) (afte
   pub memory : after ≡ put room at text
   pub place : next ≡ at + length text
   pub long : length after ≡ length room
-
--- the position that an accepted writing answers
-abbrev pub next_of : Paper ℕ → ℕ
-next_of (accepted n) = n
-next_of (refusal n carried) = 0
 
 -- no text leaves a room as it is
 pub put_nothing : (room : List ℕ) (at : ℕ) → Put room at [] at room

@@ -1,13 +1,10 @@
 // Text put into a room at a place: bytes, and a number's line: the value in shortest decimal, and both codes in digits 0 and 1.
 ghost use Rattle.std.specs.Prelude.{◌≡◌, ◌∷◌, [], map, ◌+◌, ◌/◌, ◌-◌, ◌%◌, ◌≤◌, ◌<◌, nat_abs, length, take};
 ghost use Rattle.ground.specs.Bits.{bits_of};
-ghost use Rattle.code.specs.Answers.{packed_paper};
 ghost use Rattle.code.specs.Meaning.{greatest_place, largest, longest_code};
 ghost use Rattle.code.specs.Shapes.{Drop};
 ghost use Rattle.lines.specs.Meaning.{enough, shortest, code_text, value_text, number_text};
-ghost use Rattle.lines.specs.Texts.{Put, next_of};
-
-use code::Packed;
+ghost use Rattle.lines.specs.Texts.{Put};
 
 // Puts the line of a number in range: the value and both codes.
 pub(crate) fn put_number(room: &mut [u8], at: usize, v: i32) -> usize
@@ -80,19 +77,8 @@ fn put_code(room: &mut [u8], at: usize, v: i32, drop: u8) -> usize
     ensures { Put room.old at (code_text drop v) result room.new }
 {
     let mut bytes = [0u8; 4];
-    let packed = pack::pack(&mut bytes, 0, v, drop);
-    put_bits(room, at, &bytes, next_of(packed))
-}
-
-// The position that writing a code answered.
-fn next_of(packed: Packed) -> u64
-    ensures { result ≡ next_of (packed_paper packed) }
-{
-    match packed {
-        Packed::Next(next) => next,
-        Packed::OutsideRule => 0,
-        Packed::TooShort => 0,
-    }
+    let count = pack::pack(&mut bytes, 0, v, drop).unwrap();
+    put_bits(room, at, &bytes, count)
 }
 
 // Puts the first bits of bytes in digits 0 and 1.

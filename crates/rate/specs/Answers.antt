@@ -1,48 +1,64 @@
 -- What each answer is on document 01's paper, and the way back.
 -- Assumes nothing.
-use Rattle.std.specs.Prelude.{◌≡◌, refl, eqb}
-use Rattle.std.proofs.Common.{ap}
+use Rattle.std.specs.Prelude.{◌≡◌, refl, List, [], ℕ, eqb, Result}
 use Rattle.ground.specs.Choice.{pick}
-use Rattle.ground.specs.Paper.{Paper, accepted, refusal, refused}
+use Rattle.ground.specs.Paper.{Paper, mapped}
+use Rattle.ground.specs.Refusals.{Refusals, on_paper}
+use Rattle.code.specs.declared.Refusal.{Refusal}
 use Rattle.code.specs.declared.Refusal.TheVariants.{OutsideRule, RanOut, RedundantZero, RunTooLong}
-use Rattle.code.specs.Answers.{refusal_paper, refusal_back, refusal_home}
-use Rattle.rate.specs.declared.ReadingAnswer.{ReadingAnswer}
-use Rattle.rate.specs.declared.ReadingAnswer.TheVariants as C
-use Rattle.rate.specs.declared.RateAnswer.{RateAnswer}
-use Rattle.rate.specs.declared.RateAnswer.TheVariants as R
+use Rattle.code.specs.Answers.{refusal_number, refusal_carries, refusal_back, not_read}
+use Rattle.rate.specs.declared.Counts.{Counts}
+use Rattle.rate.specs.declared.Formed.{Formed}
+use Rattle.rate.specs.declared.NotFormed.{NotFormed}
+use Rattle.rate.specs.declared.NotFormed.TheVariants.{Refused, OutOfRange}
 use Rattle.rate.specs.Meaning.{ReadingValues, RateValues}
 
+-- counts that were read, in document 01's words
+abbrev pub counts_values : Counts → ReadingValues
+counts_values c = record { reading = c.reading; next = c.next }
+
+-- the counts that have these values
+abbrev pub counts_back : ReadingValues → Counts
+counts_back v = record { reading = v.reading; next = v.next }
+
 -- the reading and the next position; 8, 9 with the bits missing, 10 or 11
-abbrev pub reading_paper : ReadingAnswer → Paper ReadingValues
-reading_paper (C.Counts reading next) = accepted (record { reading = reading; next = next })
-reading_paper (C.Refused why) = refusal_paper why
+abbrev pub reading_paper : Result Counts Refusal → Paper ReadingValues
+reading_paper r = mapped counts_values (on_paper not_read r)
 
--- the answer that a paper came from
-abbrev pub reading_back : Paper ReadingValues → ReadingAnswer
-reading_back (accepted v) = C.Counts v.reading v.next
-reading_back (refusal n carried) = C.Refused (refusal_back n carried)
+-- the numbers of what refuses a rate: the reading's, or a level's 19
+abbrev pub not_formed_number : NotFormed → ℕ
+not_formed_number (Refused why) = refusal_number why
+not_formed_number OutOfRange = 19
 
--- an answer is the one that reads as it does
-pub reading_home : (a : ReadingAnswer) → reading_back (reading_paper a) ≡ a
-reading_home (C.Counts reading next) = refl
-reading_home (C.Refused why) = ap C.Refused (refusal_home why)
+-- what they carry
+abbrev pub not_formed_carries : NotFormed → List ℕ
+not_formed_carries (Refused why) = refusal_carries why
+not_formed_carries OutOfRange = []
+
+-- the refusal of a number and what it carries
+abbrev pub not_formed_back : ℕ → List ℕ → NotFormed
+not_formed_back n carried = pick (eqb n 19) OutOfRange (Refused (refusal_back n carried))
+
+-- a refusal is the one of its number and what it carries
+pub not_formed_home : (why : NotFormed) → not_formed_back (not_formed_number why) (not_formed_carries why) ≡ why
+not_formed_home (Refused OutsideRule) = refl
+not_formed_home (Refused (RanOut missing)) = refl
+not_formed_home (Refused RedundantZero) = refl
+not_formed_home (Refused RunTooLong) = refl
+not_formed_home OutOfRange = refl
+
+-- the refusals of a rate
+abbrev pub not_formed : Refusals NotFormed
+not_formed = record { number = not_formed_number; carried = not_formed_carries; back = not_formed_back; home = not_formed_home }
+
+-- a rate that was formed, in document 01's words
+abbrev pub formed_values : Formed → RateValues
+formed_values f = record { rate = f.rate; next = f.next }
+
+-- the rate that has these values
+abbrev pub formed_back : RateValues → Formed
+formed_back v = record { rate = v.rate; next = v.next }
 
 -- the rate and the next position; 8, 9 with the bits missing, 10, 11 or 19
-abbrev pub rate_paper : RateAnswer → Paper RateValues
-rate_paper (R.Formed rate next) = accepted (record { rate = rate; next = next })
-rate_paper (R.Refused why) = refusal_paper why
-rate_paper R.OutOfRange = refused 19
-
--- the answer that a paper came from
-abbrev pub rate_back : Paper RateValues → RateAnswer
-rate_back (accepted v) = R.Formed v.rate v.next
-rate_back (refusal n carried) = pick (eqb n 19) R.OutOfRange (R.Refused (refusal_back n carried))
-
--- an answer is the one that reads as it does
-pub rate_home : (a : RateAnswer) → rate_back (rate_paper a) ≡ a
-rate_home (R.Formed rate next) = refl
-rate_home (R.Refused OutsideRule) = refl
-rate_home (R.Refused (RanOut missing)) = refl
-rate_home (R.Refused RedundantZero) = refl
-rate_home (R.Refused RunTooLong) = refl
-rate_home R.OutOfRange = refl
+abbrev pub rate_paper : Result Formed NotFormed → Paper RateValues
+rate_paper r = mapped formed_values (on_paper not_formed r)

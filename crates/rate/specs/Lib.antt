@@ -1,7 +1,6 @@
 pub mod Meaning
 pub mod Answers
 pub mod Promise
-pub mod Steps
 pub mod OneOutcome
 pub mod Readings
 pub mod Bands

@@ -41,12 +41,5 @@ pub(crate) fn divided(reading: Reading, length: u16) -> Rate
 fn less(m: u32, error: u32) -> u32
     ensures { (result ≡ m - error) × (result ≤ m) }
 {
-    m - lesser(m, error)
-}
-
-// The lesser of two numbers.
-fn lesser(a: u32, b: u32) -> u32
-    ensures { result ≡ min a b }
-{
-    if a < b { a } else { b }
+    m - m.min(error)
 }
