@@ -1,16 +1,16 @@
 -- Demand 1: "on a refusal changes neither memory nor state". For every call that may change what it is lent, of the crates and exported: where it
 -- answers another number than 0, all that it was lent is as it was. What is not named here is lent unchangeable, or has no refusals.
 -- Assumes nothing.
-use Rattle.std.specs.Prelude.{Bool, ◌≡◌, refl, List, ℕ, ◌^◌, ℤ}
+use Rattle.std.specs.Prelude.{Bool, ◌≡◌, refl, List, ℕ, ◌^◌, ℤ, Result}
 use Rattle.std.proofs.Common.{ap, ◌∙◌}
 use Rattle.ground.specs.Outcome.{Outcome, Refuses, Stays, refused_left}
 use Rattle.ground.specs.Paper.{Paper, accepted, refusal, number_of}
-use Rattle.packet.specs.declared.Written.{Written}
+use Rattle.packet.specs.declared.NotWritten.{NotWritten}
 use Rattle.packet.specs.Answers as packets
 use Rattle.packet.specs.Laws as packet
 use Rattle.packet.specs.Meaning.{FoundValues, HeaderValues, find_means, header_means, write_means}
 use Rattle.packet.specs.Promise.{WritePromise}
-use Rattle.message.specs.declared.MessageWritten.{MessageWritten}
+use Rattle.message.specs.declared.NotWritten as unwritten
 use Rattle.message.specs.Answers as messages
 use Rattle.message.specs.Laws as message
 use Rattle.message.specs.Meaning.{ReadValues, read_means, write_means as message_means}
@@ -60,13 +60,13 @@ use Rattle.plavotesk.specs.Promise.{HistogramIncrementsPromise, HistogramNextPro
 -- ---- the crates' calls
 
 -- writing a packet
-pub packet_write_refused : (buffer : List ℕ) (apid : ℕ) (payload : List ℕ) (r : Written) (after : List ℕ) → WritePromise buffer apid payload r after
-    → Refuses (number_of (packets.written_paper r)) → after ≡ buffer
+pub packet_write_refused : (buffer : List ℕ) (apid : ℕ) (payload : List ℕ) (r : Result ℕ NotWritten) (after : List ℕ)
+    → WritePromise buffer apid payload r after → Refuses (number_of (packets.written_paper r)) → after ≡ buffer
 packet_write_refused buffer apid payload r after p = refused_left p.outcome (packet.write_stays buffer apid payload)
 
 -- writing a message
-pub message_write_refused : (buffer : List ℕ) (address tag value : ℕ) (r : MessageWritten) (after : List ℕ) → said.WritePromise buffer address tag value r after
-    → Refuses (number_of (messages.written_paper r)) → after ≡ buffer
+pub message_write_refused : (buffer : List ℕ) (address tag value : ℕ) (r : Result ℕ unwritten.NotWritten) (after : List ℕ)
+    → said.WritePromise buffer address tag value r after → Refuses (number_of (messages.written_paper r)) → after ≡ buffer
 message_write_refused buffer address tag value r after p = refused_left p.outcome (message.write_stays buffer address tag value)
 
 -- writing a code

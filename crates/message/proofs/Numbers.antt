@@ -60,7 +60,8 @@ pub data_put : (buffer : List ℕ) {part eight : List ℕ} {size : ℕ} (tag val
     → put_mid 4 (size + 4 - 4) buffer part ≡ put buffer 4 (bytes_of size value)
 data_put buffer {part} {eight} {size} tag value is e p =
     let bytes : part ≡ bytes_of size value =
-    p ∙ ap₂ (λ (k : ℕ) (l : List ℕ). take (8 - (8 - k)) (drop (8 - k) l)) is (e ∙ high_first 8 value) ∙ last_bytes tag value ∙ ap (λ (k : ℕ). bytes_of k value) (sym is) in
+    p ∙ ap₂ (λ (k : ℕ) (l : List ℕ). take (8 - (8 - k)) (drop (8 - k) l)) is (e ∙ high_first 8 value) ∙ last_bytes tag value
+    ∙ ap (λ (k : ℕ). bytes_of k value) (sym is) in
     let behind : size + 4 ≡ 4 + length (bytes_of size value) = add_comm size 4 ∙ ap (λ (k : ℕ). 4 + k) (sym (length-bytes_of size value)) in
     ap₂ (λ (x y : List ℕ). take 4 buffer ++ (x ++ y)) bytes
     (Post-is 4 (size + 4) buffer (omega arith) ∙ ap (λ (k : ℕ). drop k buffer) behind)

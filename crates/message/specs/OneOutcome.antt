@@ -11,7 +11,9 @@ use Rattle.message.specs.Promise.{ReadPromise, WritePromise}
 
 -- bytes leave one message or one refusal
 pub read_one : {bytes : List ℕ} {r s : Result Message NotRead} → ReadPromise bytes r → ReadPromise bytes s → r ≡ s
-read_one p q = one_result_as not_read message_values (λ v. record { address = v.address; tag = v.tag; value = v.value; used = v.used }) (λ x. refl) p.answer q.answer
+read_one p q =
+    one_result_as not_read message_values (λ v. record { address = v.address; tag = v.tag; value = v.value; used = v.used }) (λ x. refl)
+    p.answer q.answer
 
 -- a buffer, an address, a tag and a value leave one answer and one buffer
 pub write_one : {buffer : List ℕ} {address tag value : ℕ} {r s : Result ℕ NotWritten} {m n : List ℕ}
