@@ -2,15 +2,17 @@
 -- Assumes nothing.
 use mathlib.Core.Path.{◌≡◌, refl, sym, ap, ap₂, ◌∙◌}
 use mathlib.Core.Bool.{Bool, true, false}
-use mathlib.Core.List.{List}
-use Prim.Native.Nat.{ℕ, ◌+◌, ◌-◌, ◌*◌, ◌/◌, ◌%◌, ◌^◌, ◌<◌, ◌≤◌}
+use mathlib.Core.List.{List, [], ◌∷◌, ◌++◌}
+use Prim.Native.Nat.{ℕ, ◌+◌, ◌-◌, ◌*◌, ◌<◌, ◌≤◌}
 use native.Mathlib.Omega.{arith}
 use borrow.Author.Tests.{le-leb, lt-leb, leb-true, leb-false}
 use lib.Dec.{leb}
-use lib.ListN.{length, get_or, set}
+use borrow.Rule.Slice.PartMut.{put_mid, Post-is}
+use lib.ListN.{length, get_or, take}
+use Rattle.std.specs.Int.{bytes_high_first, from_be_bytes, w16}
 use Rattle.ground.specs.Choice.{pick}
-use Rattle.ground.specs.Words.{bytes_of, word_at, word_bytes}
-use Rattle.ground.specs.Putting.{put, put_word}
+use Rattle.ground.specs.Words.{bytes_of, high_first, word_at, word_bytes}
+use Rattle.ground.specs.Putting.{put}
 use Rattle.ground.specs.Laws.{inside}
 use Rattle.ground.specs.Promise.{LiesPromise, WordPromise, PutPromise}
 
@@ -28,25 +30,22 @@ left bytes at size h = record { answer = go (leb size (length bytes - at)) refl 
 
 module _ {bytes : List ℕ} {at : ℕ} {t : Bool} (p : LiesPromise bytes at 2 t) where
   -- a word is its two bytes
-  pub word_here : {high low : ℕ} → t ≡ true → high ≡ get_or bytes at 0 → low ≡ get_or bytes (at + 1) 0 → WordPromise bytes at (high * 256 + low)
-  word_here e h l =
-      record {
-        answer =
-            ap₂ (λ (x y : ℕ). x * 256 + y) h l
-            ∙ sym (word_bytes bytes at (inside p e))
-            ∙ ap (λ (b : Bool). pick b (word_at bytes at) 0) (sym e ∙ p.answer);
-      }
+  pub word_here : {word : ℕ} → t ≡ true → word ≡ from_be_bytes w16 (get_or bytes at 0 ∷ get_or bytes (at + 1) 0 ∷ []) → WordPromise bytes at word
+  word_here {word} e h =
+      let two : word ≡ get_or bytes at 0 * 256 + get_or bytes (at + 1) 0 = omega (arith, h) in
+      record { answer = two ∙ sym (word_bytes bytes at (inside p e)) ∙ ap (λ (b : Bool). pick b (word_at bytes at) 0) (sym e ∙ p.answer) }
 
   -- no word
   pub word_away : t ≡ false → WordPromise bytes at 0
   word_away e = record { answer = ap (λ (b : Bool). pick b (word_at bytes at) 0) (sym e ∙ p.answer) }
 
-  -- two bytes stored one after the other
-  pub put_here : (word : ℕ) → t ≡ true → word < 2 ^ 16 → PutPromise bytes at word (set (set bytes at (word / 256)) (at + 1) (word % 256))
-  put_here word e h =
+  -- two bytes stored in their places
+  pub put_here : (word : ℕ) {two part : List ℕ} → t ≡ true → two ≡ bytes_high_first 2 word → part ≡ two
+      → PutPromise bytes at word (put_mid at (at + 2 - at) bytes part)
+  put_here word e h g =
       record {
         memory =
-            put_word bytes at word (inside p e) h
+            ap₂ (λ (x y : List ℕ). take at bytes ++ (x ++ y)) (g ∙ h ∙ high_first 2 word) (Post-is at (at + 2) bytes (omega arith))
             ∙ ap (λ (b : Bool). pick b (put bytes at (bytes_of 2 word)) bytes) (sym e ∙ p.answer);
       }
 

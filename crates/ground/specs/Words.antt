@@ -3,7 +3,8 @@
 use Rattle.std.specs.Prelude.{◌≡◌, refl, List, [], ◌∷◌, ◌++◌, ℕ, zero, suc, ◌+◌, ◌*◌, ◌/◌, ◌%◌, ◌^◌, ◌<◌, ◌≤◌, length, take, drop, get_or}
 use Rattle.std.proofs.Common.{sym, ap, ap₂, ◌∙◌, pow-suc, mul_comm, mul_assoc, add_assoc, add-mul, mod-eq_of_lt, add-zero, mul-one, zero-lt-suc, add-one}
 use Rattle.std.proofs.Common.{arith, length-append, drop-cons}
-use Rattle.std.proofs.Math.Nat.{one-le-pow}
+use Rattle.std.specs.Int.{bytes_high_first}
+use Rattle.std.proofs.Math.Nat.{div-one, one-le-pow}
 use Rattle.std.proofs.Math.Arith.{mod-mul}
 
 -- the number that bytes mean, the first byte counting most
@@ -19,6 +20,12 @@ bytes_of (suc w) x = (x / 256 ^ w % 256) ∷ bytes_of w x
 -- the 16-bit word at a place
 abbrev pub word_at : List ℕ → ℕ → ℕ
 word_at l at = number (take 2 (drop at l))
+
+-- the library's bytes of a number, the highest first, are these
+pub high_first : (w x : ℕ) → bytes_high_first w x ≡ bytes_of w x
+high_first zero x = refl
+high_first (suc zero) x = ap (λ (y : ℕ). y % 256 ∷ []) (sym (div-one x))
+high_first (suc (suc w)) x = ap (λ (l : List ℕ). (x / 256 ^ suc w % 256) ∷ l) (high_first (suc w) x)
 
 pub length-bytes_of : (w x : ℕ) → length (bytes_of w x) ≡ w
 length-bytes_of zero x = refl

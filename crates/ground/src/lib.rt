@@ -40,9 +40,7 @@ pub fn word_at(bytes: &[u8], at: usize) -> u16
     ensures { WordPromise bytes.now at result }
 {
     if lies_in(bytes, at, 2) {
-        let high = wide(bytes[at]);
-        let low = wide(bytes[at + 1]);
-        high * 256 + low
+        u16::from_be_bytes([bytes[at], bytes[at + 1]])
     } else {
         0
     }
@@ -53,14 +51,6 @@ pub fn put_word(buffer: &mut [u8], at: usize, word: u16)
     ensures { PutPromise buffer.old at word buffer.new }
 {
     if lies_in(buffer, at, 2) {
-        buffer[at] = (word / 256) as u8;
-        buffer[at + 1] = (word % 256) as u8;
+        buffer[at..at + 2].copy_from_slice(&word.to_be_bytes());
     }
-}
-
-// A byte as a word.
-fn wide(x: u8) -> u16
-    ensures { (result ≡ x) × (result < 256) }
-{
-    x as u16
 }

@@ -1,16 +1,16 @@
 -- A value taken from its bytes, and put as its bytes, the highest first.
 -- Assumes nothing.
 use mathlib.Core.Path.{◌≡◌, refl, sym, ap, ap₂, ◌∙◌}
-use mathlib.Core.List.{List, [], ◌∷◌, ◌++◌}
-use Prim.Native.Nat.{ℕ, zero, suc, ◌+◌, ◌-◌, ◌*◌, ◌/◌, ◌%◌, ◌^◌, ◌<◌, ◌≤◌}
-use native.Mathlib.Nat.{add_comm, pow-suc, pow-le-pow_right, zero-lt-suc, div-one, le_antisymm}
+use mathlib.Core.List.{List, ◌++◌}
+use Prim.Native.Nat.{ℕ, zero, suc, ◌+◌, ◌-◌, ◌*◌, ◌^◌, ◌<◌, ◌≤◌}
+use native.Mathlib.Nat.{add_comm, pow-suc, pow-le-pow_right, zero-lt-suc, le_antisymm}
 use native.Mathlib.Numerals.{add-one}
 use native.Mathlib.Omega.{arith}
 use borrow.Rule.Slice.PartMut.{put_mid, Post-is}
 use lib.ListN.{length, take, drop, get_or}
 use lib.Seq.{take-suc, take-length}
 use Rattle.std.specs.Int.{bytes_high_first}
-use Rattle.ground.specs.Words.{number, bytes_of, length-bytes_of, number_snoc}
+use Rattle.ground.specs.Words.{number, bytes_of, high_first, length-bytes_of, number_snoc}
 use Rattle.ground.specs.Putting.{put}
 use Rattle.message.specs.Meaning.{data_size}
 
@@ -40,12 +40,6 @@ summed_more {bytes} {value} {i} s h small =
 -- one byte more still fits, where there are at most eight
 pub room : {i value : ℕ} → value < 256 ^ i → i < 8 → value < 2 ^ 56
 room {i} {value} s h = let within : i ≤ 7 = omega arith in omega (arith, pow-le-pow_right (zero-lt-suc 255) within)
-
--- the bytes of a number from the highest on are those that document 01 writes, "big endian"
-high_first : (k n : ℕ) → bytes_high_first k n ≡ bytes_of k n
-high_first zero n = refl
-high_first (suc zero) n = ap (λ (x : ℕ). x % 256 ∷ []) (sym (div-one n))
-high_first (suc (suc k)) n = ap (λ (l : List ℕ). (n / 256 ^ suc k % 256) ∷ l) (high_first (suc k) n)
 
 -- the last of eight bytes, as many as a tag stands for
 last_bytes : (tag n : ℕ) → take (8 - (8 - data_size tag)) (drop (8 - data_size tag) (bytes_of 8 n)) ≡ bytes_of (data_size tag) n

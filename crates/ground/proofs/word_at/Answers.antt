@@ -16,8 +16,7 @@ pub bounds-bytes-at-then-lies_in : goal.bounds-bytes-at-then-lies_in
 bounds-bytes-at-then-lies_in c = omega (arith, inside c.lies_in.ensures c.if-lies_in.true)
 
 pub returns-then-lies_in : goal.returns-then-lies_in
-returns-then-lies_in c = word_here c.lies_in.ensures c.if-lies_in.true
-    c.wide-high.ensures.0 c.wide-low.ensures.0
+returns-then-lies_in c = word_here c.lies_in.ensures c.if-lies_in.true c.from_be_bytes.ensures
 
 pub returns-else-lies_in : goal.returns-else-lies_in
 returns-else-lies_in c = word_away c.lies_in.ensures c.if-lies_in.false
