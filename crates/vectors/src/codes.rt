@@ -21,26 +21,18 @@ pub fn run(bytes: &[u8], at: u64, drop: u8) {
 }
 
 // The line of a code: 0, the number and the next position, which it answers; or the refusal, and where it was asked for.
-fn told(answer: Unpacked, at: u64) -> u64 {
-    say::first(code::unpacked_number(answer) as u64);
-    let next = next_of(answer, at);
+fn told(answer: Result<Unpacked, Refusal>, at: u64) -> u64 {
+    say::first(u64::from(ground::number_of(answer)));
+    let mut next = at;
+    match answer {
+        Ok(code) => {
+            say::signed(code.value);
+            say::more(code.next);
+            next = code.next;
+        }
+        Err(Refusal::RanOut { missing }) => say::more(u64::from(missing)),
+        Err(_) => (),
+    }
     say::end();
     next
-}
-
-// The number and the next position of a code that was read.
-fn next_of(answer: Unpacked, at: u64) -> u64 {
-    match answer {
-        Unpacked::Number { value, next } => {
-            say::signed(value);
-            say::more(next);
-            next
-        }
-        Unpacked::Refused(why) => {
-            if let Refusal::RanOut { missing } = why {
-                say::more(missing as u64);
-            }
-            at
-        }
-    }
 }
