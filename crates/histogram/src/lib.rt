@@ -1,220 +1,140 @@
 // Histogram memory: counters in two pages of lent words, and a state in lent words; opened, counted in, and its pages exchanged.
 #![tactic(auto)]
 
-ghost use Rattle.std.specs.Prelude.{not, ◌≡◌, ◌≤◌, length};
-ghost use Rattle.ground.specs.Outcome.{outcome_of};
-ghost use Rattle.ground.specs.Paper.{mapped, number_of};
-ghost use Rattle.pages.specs.Answers.{count_paper};
-ghost use Rattle.state.specs.Words.{flag_of, fresh_in, page_in, state_words};
-ghost use Rattle.histogram.specs.Meaning.{done, feed_of};
-ghost use Rattle.histogram.specs.Answers.{opened_paper, increment_paper, increments_paper, flip_paper};
-ghost use Rattle.histogram.specs.Promise.{OpenPromise, IncrementPromise, IncrementsPromise, FlipPromise};
+ghost use Rattle.std.specs.Prelude.{◌≡◌, ◌≤◌, length};
+ghost use Rattle.ground.specs.Outcome.{accept};
+ghost use Rattle.state.specs.Words.{fresh_in, state_words};
+ghost use Rattle.histogram.specs.Meaning.{feed_of};
+ghost use Rattle.histogram.specs.Answers.{fed_of, not_incremented};
+ghost use Rattle.histogram.specs.Promise.{AdmitPromise, OpenPromise, IncrementPromise, IncrementsPromise, FlipPromise};
+ghost use Rattle.histogram.specs.declared.NotIncremented.TheVariants as not;
 
+use ground::Numbered;
 pub use pages::FULL;
-use pages::{CountAnswer, clear, count, sized};
+use pages::{NotCounted, clear, count, sized};
 pub use state::STATE_WORDS;
-use state::{SECOND, WORDS, fitting};
+use state::{SECOND, WORDS, WrongMemory, fitting, second_active};
 
-// What opening answers.
-#[derive(Clone, Copy)]
-pub enum Opened {
-    Ready,
-    WrongMemory,
+// Why an increment is refused: its memory is not the state's own, or its particle is not counted.
+#[derive(Clone, Copy, Debug, PartialEq, Eq)]
+pub enum NotIncremented {
+    Memory(WrongMemory),
+    Count(NotCounted),
 }
 
-// What an increment answers.
-#[derive(Clone, Copy)]
-pub enum IncrementAnswer {
-    Counted,
-    WrongMemory,
-    WrongAddress,
-    Full,
-    AboveFull,
+// How far a run of increments went: how many were counted, and why the next one was not, where it ended early.
+#[derive(Clone, Copy, Debug, PartialEq, Eq)]
+pub struct Fed {
+    pub count: u64,
+    pub ended: Option<NotCounted>,
 }
 
-// What a run of increments answers: how many were counted, and the number of the refusal that ended it, 0 where none did.
-#[derive(Clone, Copy)]
-pub enum IncrementsAnswer {
-    Fed { count: u64, ended: u8 },
-    WrongMemory,
+impl Numbered for NotIncremented {
+    ghost refusals = { not_incremented };
+
+    fn number(&self) -> u8 {
+        match self {
+            NotIncremented::Memory(why) => why.number(),
+            NotIncremented::Count(why) => why.number(),
+        }
+    }
 }
 
-// What a flip answers.
-#[derive(Clone, Copy)]
-pub enum FlipAnswer {
-    Exchanged,
-    WrongMemory,
+impl From<WrongMemory> for NotIncremented {
+    ghost from_gives = { λ why e. e ≡ not.Memory why };
+
+    fn from(why: WrongMemory) -> NotIncremented {
+        NotIncremented::Memory(why)
+    }
+}
+
+impl From<NotCounted> for NotIncremented {
+    ghost from_gives = { λ why e. e ≡ not.Count why };
+
+    fn from(why: NotCounted) -> NotIncremented {
+        NotIncremented::Count(why)
+    }
 }
 
 // Takes 2N words, sets them all to 0, and makes the state: the first page active, nothing kept.
-pub fn open(memory: &mut [u32], state: &mut [u64]) -> Opened
+#[tactic(auto, unfolding(crate::specs::Meaning::open_means))]
+pub fn open(memory: &mut [u32], state: &mut [u64]) -> Result<(), WrongMemory>
     ensures { OpenPromise memory.old state.old result memory.new state.new }
 {
-    if state.len() < STATE_WORDS {
-        return Opened::WrongMemory;
-    }
     let words = memory.len();
-    if !sized(words) {
-        return Opened::WrongMemory;
+    if state.len() < STATE_WORDS || !sized(words) {
+        return Err(WrongMemory);
     }
     clear(memory);
     fresh(state, words as u64);
-    Opened::Ready
+    Ok(())
+}
+
+// Whether a call on memory and state may go on: the memory is the state's own.
+#[tactic(auto, unfolding(crate::specs::Meaning::admission))]
+pub fn admit(memory: &[u32], state: &[u64]) -> Result<(), WrongMemory>
+    ensures { AdmitPromise memory.now state.now result }
+{
+    if fitting(memory.len(), state) {
+        Ok(())
+    } else {
+        Err(WrongMemory)
+    }
 }
 
 // Adds 1 to the word at an address of the active page.
-pub fn increment(memory: &mut [u32], state: &[u64], address: u32) -> IncrementAnswer
+#[tactic(auto, unfolding(crate::specs::Meaning::increment_means, crate::specs::Meaning::admission))]
+pub fn increment(memory: &mut [u32], state: &[u64], address: u32) -> Result<(), NotIncremented>
     ensures { IncrementPromise memory.old state.now address result memory.new }
 {
-    if !fitting(memory.len(), state) {
-        return IncrementAnswer::WrongMemory;
-    }
-    let counted = count(memory, active_page(state), address);
-    increment_answer(counted)
+    admit(memory, state)?;
+    count(memory, second_active(state), address)?;
+    Ok(())
 }
 
 // Increments at one address after the other, up to the first that would be refused.
-pub fn increments(memory: &mut [u32], state: &[u64], addresses: &[u32]) -> IncrementsAnswer
+#[tactic(auto, unfolding(crate::specs::Meaning::increments_means, crate::specs::Meaning::admission))]
+pub fn increments(memory: &mut [u32], state: &[u64], addresses: &[u32]) -> Result<Fed, WrongMemory>
     ensures { IncrementsPromise memory.old state.now addresses.now result memory.new }
 {
-    if !fitting(memory.len(), state) {
-        return IncrementsAnswer::WrongMemory;
-    }
-    feed(memory, active_page(state), addresses)
+    admit(memory, state)?;
+    Ok(feed(memory, second_active(state), addresses))
 }
 
 // Exchanges the active page and the idle one.
-pub fn flip(memory: &[u32], state: &mut [u64]) -> FlipAnswer
+#[tactic(auto, unfolding(crate::specs::Meaning::flip_means, crate::specs::Meaning::admission))]
+pub fn flip(memory: &[u32], state: &mut [u64]) -> Result<(), WrongMemory>
     ensures { FlipPromise memory.now state.old result state.new }
 {
-    if !fitting(memory.len(), state) {
-        return FlipAnswer::WrongMemory;
-    }
-    state[SECOND] = flag(idle_page(state));
-    FlipAnswer::Exchanged
-}
-
-// Document 01's number of what opening answers, 0 where it is accepted.
-pub fn open_number(a: Opened) -> u8
-    ensures { result ≡ number_of (opened_paper a) }
-{
-    match a {
-        Opened::Ready => 0,
-        Opened::WrongMemory => 13,
-    }
-}
-
-// Document 01's number of what an increment answers, 0 where it is accepted.
-pub fn increment_number(a: IncrementAnswer) -> u8
-    ensures { result ≡ number_of (increment_paper a) }
-{
-    match a {
-        IncrementAnswer::Counted => 0,
-        IncrementAnswer::WrongMemory => 13,
-        IncrementAnswer::WrongAddress => 14,
-        IncrementAnswer::Full => 15,
-        IncrementAnswer::AboveFull => 16,
-    }
-}
-
-// Document 01's number of what a flip answers, 0 where it is accepted.
-pub fn flip_number(a: FlipAnswer) -> u8
-    ensures { result ≡ number_of (flip_paper a) }
-{
-    match a {
-        FlipAnswer::Exchanged => 0,
-        FlipAnswer::WrongMemory => 13,
-    }
-}
-
-// Document 01's number of what a run of increments answers, 0 where it is accepted.
-pub fn increments_number(a: IncrementsAnswer) -> u8
-    ensures { result ≡ number_of (increments_paper a) }
-{
-    match a {
-        IncrementsAnswer::Fed { count: _, ended: _ } => 0,
-        IncrementsAnswer::WrongMemory => 13,
-    }
+    admit(memory, state)?;
+    state[SECOND] = u64::from(!second_active(state));
+    Ok(())
 }
 
 // Makes the state of an opened memory of so many words: the first page active, nothing kept.
+#[tactic(auto, unfolding(state::specs::Words::fresh_in))]
 fn fresh(state: &mut [u64], words: u64)
     requires { state_words ≤ length state.old }
     ensures { state.new ≡ fresh_in state.old words }
 {
-    let mut i = 0;
-    while i < STATE_WORDS {
-        state[i] = 0;
-        i += 1;
-    }
+    state[..STATE_WORDS].fill(0);
     state[WORDS] = words;
 }
 
-// The active page: whether it is the second.
-fn active_page(state: &[u64]) -> bool
-    requires { state_words ≤ length state.now }
-    ensures { result ≡ page_in state.now }
-{
-    state[SECOND] != 0
-}
-
-// The idle page: whether it is the second.
-fn idle_page(state: &[u64]) -> bool
-    requires { state_words ≤ length state.now }
-    ensures { result ≡ not (page_in state.now) }
-{
-    let second = state[SECOND] != 0;
-    !second
-}
-
-// An increment's answer to what counting answered.
-fn increment_answer(counted: CountAnswer) -> IncrementAnswer
-    ensures { increment_paper result ≡ mapped (λ x. done) (count_paper counted) }
-{
-    match counted {
-        CountAnswer::Counted => IncrementAnswer::Counted,
-        CountAnswer::WrongAddress => IncrementAnswer::WrongAddress,
-        CountAnswer::Full => IncrementAnswer::Full,
-        CountAnswer::AboveFull => IncrementAnswer::AboveFull,
-    }
-}
-
 // Increments on a page, one address after the other, up to the first that would be refused.
-fn feed(memory: &mut [u32], second: bool, addresses: &[u32]) -> IncrementsAnswer
-    ensures { outcome_of (increments_paper result) memory.new ≡ feed_of 0 memory.old second addresses.now }
+fn feed(memory: &mut [u32], second: bool, addresses: &[u32]) -> Fed
+    ensures { accept (fed_of result) memory.new ≡ feed_of 0 memory.old second addresses.now }
 {
-    let mut done = 0;
-    while done < addresses.len() {
-        let ended = count_number(count(memory, second, addresses[done]));
-        if ended != 0 {
-            return IncrementsAnswer::Fed {
+    for (done, address) in addresses.iter().enumerate() {
+        if let Err(why) = count(memory, second, *address) {
+            return Fed {
                 count: done as u64,
-                ended,
+                ended: Some(why),
             };
         }
-        done += 1;
     }
-    IncrementsAnswer::Fed {
-        count: done as u64,
-        ended: 0,
+    Fed {
+        count: addresses.len() as u64,
+        ended: None,
     }
-}
-
-// The number of what counting answered, 0 where it counted.
-fn count_number(counted: CountAnswer) -> u8
-    ensures { result ≡ number_of (count_paper counted) }
-{
-    match counted {
-        CountAnswer::Counted => 0,
-        CountAnswer::WrongAddress => 14,
-        CountAnswer::Full => 15,
-        CountAnswer::AboveFull => 16,
-    }
-}
-
-// A flag's word.
-fn flag(b: bool) -> u64
-    ensures { result ≡ flag_of b }
-{
-    if b { 1 } else { 0 }
 }

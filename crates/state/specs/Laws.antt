@@ -1,6 +1,6 @@
 -- Laws of the turn and of the next number.
 -- Assumes nothing.
-use Rattle.std.specs.Prelude.{Bool, true, false, ◌&&◌, ◌≡◌, refl, List, [], ◌∷◌, ℕ, ◌+◌, ◌≤◌, eqb, leb, get_or, length}
+use Rattle.std.specs.Prelude.{Bool, true, false, ◌&&◌, ◌≡◌, refl, List, [], ◌∷◌, ℕ, ◌+◌, ◌≤◌, eqb, leb, get_or, length, Result, Ok, Err}
 use Rattle.std.proofs.Common.{sym, ap, ◌∙◌, arith, eq-eqb, eqb-true, le-leb, ne_eqb}
 use Rattle.ground.specs.Choice.{pick, pick_elim}
 use Rattle.ground.specs.Paper.{Paper, accepted, accepted_same, refused, refused_not}
@@ -9,8 +9,10 @@ use Rattle.pages.specs.declared.Window.{Window}
 use Rattle.state.specs.Meaning.{next_after, repeats_in, roomy, turn_by, turn_in}
 use Rattle.state.specs.Turns.{next_of, same_asked, same_flag, same_inputs, same_items, same_of, turn_of, turn_told}
 use Rattle.state.specs.Words.{Asked, window, packet, Kept, Last, Nothing, asked_in, flag_in, kept_at, kept_in, last_in, number_at, state_words}
+use Rattle.state.specs.declared.NoTurn.{NoTurn}
+use Rattle.state.specs.declared.NoTurn.TheVariants.{OutOfTurn}
 use Rattle.state.specs.declared.Turn.{Turn}
-use Rattle.state.specs.declared.Turn.TheVariants.{NewAsk, OutOfTurn}
+use Rattle.state.specs.declared.Turn.TheVariants.{NewAsk}
 
 -- beside enough words the turn is what they keep
 pub turn_kept : (w : List ℕ) (number : ℕ) (a : Asked) → state_words ≤ length w → turn_in w number a ≡ turn_of (kept_in w) number a
@@ -18,7 +20,7 @@ turn_kept w number a h = rw (le-leb state_words (length w) h)
 
 -- the turn, told whether the ask asks for the same as the words' kept one
 pub turn_told_lem : (w : List ℕ) (number : ℕ) (a : Asked) → turn_by w number (same_asked (asked_in w) a) ≡ turn_in w number a
-turn_told_lem w number a = ap (λ (t : Turn). pick (roomy w) t OutOfTurn) (kept_told (flag_in (get_or w kept_at 0)))
+turn_told_lem w number a = ap (λ (t : Result Turn NoTurn). pick (roomy w) t (Err OutOfTurn)) (kept_told (flag_in (get_or w kept_at 0)))
   where
     kept_told : (b : Bool) → turn_told (pick b (last_in w) Nothing) number (same_asked (asked_in w) a) ≡ turn_of (pick b (last_in w) Nothing) number a
     kept_told true = refl
@@ -32,8 +34,8 @@ turn_repeats w number a = either (roomy w) (flag_in (get_or w kept_at 0)) (eqb n
     same = same_asked (asked_in w) a
 
     either : (r b e : Bool) → eqb number (get_or w number_at 0) ≡ e
-        → pick r (turn_told (pick b (last_in w) Nothing) number (r && (e && same))) OutOfTurn
-        ≡ pick r (turn_told (pick b (last_in w) Nothing) number same) OutOfTurn
+        → pick r (turn_told (pick b (last_in w) Nothing) number (r && (e && same))) (Err OutOfTurn)
+        ≡ pick r (turn_told (pick b (last_in w) Nothing) number same) (Err OutOfTurn)
     either false b e h = refl
     either true false e h = refl
     either true true true h = refl
@@ -49,10 +51,10 @@ module _ (w : List ℕ) (number : ℕ) (a : Asked) (h : state_words ≤ length w
   repeats_not k = rw (le-leb state_words (length w) h, ← e, k)
 
 -- the number of the next ask is the turn of a new one, whatever it asks for
-pub next_is_new : (kept : Kept) (n : ℕ) (a : Asked) → next_after kept ≡ accepted n → turn_of kept n a ≡ NewAsk
+pub next_is_new : (kept : Kept) (n : ℕ) (a : Asked) → next_after kept ≡ accepted n → turn_of kept n a ≡ Ok NewAsk
 next_is_new Nothing n a e = let same : 1 ≡ n = accepted_same e in rw (eq-eqb n 1 (sym same))
 next_is_new (Last k b sum) n a e =
-    pick_elim (λ (p : Paper ℕ). p ≡ accepted n → turn_of (Last k b sum) n a ≡ NewAsk) (leb k 65535) (accepted (next_of k)) (refused 13)
+    pick_elim (λ (p : Paper ℕ). p ≡ accepted n → turn_of (Last k b sum) n a ≡ Ok NewAsk) (leb k 65535) (accepted (next_of k)) (refused 13)
     (λ h q. let same : next_of k ≡ n = accepted_same q in rw (ne_eqb n k (λ z. other k (same ∙ z)), eq-eqb n (next_of k) (sym same)))
     (λ h q. absurd (refused_not q))
     e

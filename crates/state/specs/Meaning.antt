@@ -1,13 +1,14 @@
 -- What each call says of a state's words: 13, whose turn it is, and the next number.
 -- Assumes nothing.
-use Rattle.std.specs.Prelude.{Bool, ◌&&◌, List, ℕ, eqb, leb, get_or, length}
+use Rattle.std.specs.Prelude.{Bool, ◌&&◌, List, ℕ, eqb, leb, get_or, length, Result, Err}
 use Rattle.ground.specs.Choice.{pick}
 use Rattle.ground.specs.Paper.{Paper, accepted, refused}
 use Rattle.pages.specs.Meaning.{sized_of}
 use Rattle.state.specs.Turns.{next_of, same_asked, turn_of, turn_told}
 use Rattle.state.specs.Words.{Asked, Kept, Last, Nothing, asked_in, kept_in, number_at, state_words, words_at}
+use Rattle.state.specs.declared.NoTurn.{NoTurn}
+use Rattle.state.specs.declared.NoTurn.TheVariants.{OutOfTurn}
 use Rattle.state.specs.declared.Turn.{Turn}
-use Rattle.state.specs.declared.Turn.TheVariants.{OutOfTurn}
 
 -- enough words for a state
 abbrev pub roomy : List ℕ → Bool
@@ -18,12 +19,12 @@ abbrev pub fitting_of : ℕ → List ℕ → Bool
 fitting_of words state = roomy state && (sized_of words && eqb words (get_or state words_at 0))
 
 -- whose turn it is beside a state's words; fewer words than a state takes are nobody's
-abbrev pub turn_in : List ℕ → ℕ → Asked → Turn
-turn_in state number a = pick (roomy state) (turn_of (kept_in state) number a) OutOfTurn
+abbrev pub turn_in : List ℕ → ℕ → Asked → Result Turn NoTurn
+turn_in state number a = pick (roomy state) (turn_of (kept_in state) number a) (Err OutOfTurn)
 
 -- the same, told whether the ask asks for the same as the kept one
-abbrev pub turn_by : List ℕ → ℕ → Bool → Turn
-turn_by state number same = pick (roomy state) (turn_told (kept_in state) number same) OutOfTurn
+abbrev pub turn_by : List ℕ → ℕ → Bool → Result Turn NoTurn
+turn_by state number same = pick (roomy state) (turn_told (kept_in state) number same) (Err OutOfTurn)
 
 -- whether an ask bears the last number and asks for the same as the kept one
 abbrev pub repeats_in : List ℕ → ℕ → Asked → Bool

@@ -2,13 +2,13 @@
 #![tactic(auto)]
 
 ghost use Rattle.std.specs.Prelude.{◌≡◌, ◌≤◌, eqb, get_or, length};
-ghost use Rattle.ground.specs.Paper.{number_of};
-ghost use Rattle.state.specs.Words.{Asked, asked_in, last_in, number_at, state_words, sum_at, window_in};
-ghost use Rattle.state.specs.Turns.{next_of, same_asked, same_flag, same_of, turn_told};
+ghost use Rattle.state.specs.Words.{Asked, asked_in, last_in, number_at, page_in, state_words, sum_at, window_in};
+ghost use Rattle.state.specs.Turns.{next_of, same_asked, same_of, turn_told};
 ghost use Rattle.state.specs.Meaning.{fitting_of, next_after_last, repeats_in, turn_by, turn_in};
-ghost use Rattle.state.specs.Answers.{next_paper};
+ghost use Rattle.state.specs.Answers.{next_paper, no_turn, wrong_memory};
 ghost use Rattle.state.specs.Promise.{NextPromise};
 
+use ground::Numbered;
 use pages::{Window, sized};
 
 // How many items the table of a kept packet has at most, and how many bytes the packet.
@@ -17,6 +17,7 @@ pub const MOST_ITEMS: usize = 64;
 pub const MOST_BYTES: usize = 243;
 
 // What is kept, by its word: a window's ask, a packet's.
+// Stays: what a state's words say may not change (`asked_in` of specs/Words).
 pub const WINDOW_ASK: u64 = 1;
 
 pub const PACKET_ASK: u64 = 2;
@@ -62,110 +63,117 @@ pub const BYTES: usize = BYTE_COUNT + 1;
 // How many words a state takes.
 pub const STATE_WORDS: usize = BYTES + MOST_BYTES;
 
-// A new ask; the last one repeated, with its kept sum or total; the last number with another ask; or out of turn.
-#[derive(Clone, Copy)]
+// An ask whose turn it is: a new one, or the last one repeated, with its kept sum or total.
+#[derive(Clone, Copy, Debug, PartialEq, Eq)]
 pub enum Turn {
     NewAsk,
     LastAsk(u64),
+}
+
+// An ask whose turn it is not: the last number with another ask, or a number out of turn.
+#[derive(Clone, Copy, Debug, PartialEq, Eq)]
+pub enum NoTurn {
     OtherAsk,
     OutOfTurn,
 }
 
-// What the number of the next ask answers.
-#[derive(Clone, Copy)]
-pub enum NextAnswer {
-    Number(u16),
-    WrongMemory,
+// A memory that is not the state's own, or a state of too few words.
+#[derive(Clone, Copy, Debug, PartialEq, Eq)]
+pub struct WrongMemory;
+
+impl Numbered for NoTurn {
+    ghost refusals = { no_turn };
+
+    fn number(&self) -> u8 {
+        match self {
+            NoTurn::OtherAsk => 18,
+            NoTurn::OutOfTurn => 17,
+        }
+    }
+}
+
+impl Numbered for WrongMemory {
+    ghost refusals = { wrong_memory };
+
+    fn number(&self) -> u8 {
+        13
+    }
 }
 
 // Whether a memory of so many words is one that the state belongs to.
 pub fn fitting(words: usize, state: &[u64]) -> bool
     ensures { result ≡ fitting_of words state.now }
 {
-    if state.len() < STATE_WORDS {
-        return false;
-    }
-    if !sized(words) {
-        return false;
-    }
-    words as u64 == state[WORDS]
+    STATE_WORDS <= state.len() && sized(words) && words as u64 == state[WORDS]
+}
+
+// Whether the second page is the active one; no words say that the first is.
+pub fn second_active(state: &[u64]) -> bool
+    ensures { result ≡ page_in state.now }
+{
+    state.get(SECOND).is_some_and(|word| *word != 0)
 }
 
 // What an ask's number and window make it, beside what is kept.
-pub fn turn_of(state: &[u64], number: u16, window: Window) -> Turn
+pub fn turn_of(state: &[u64], number: u16, window: Window) -> Result<Turn, NoTurn>
     ensures { result ≡ turn_in state.now number (Asked.window window) }
 {
     turn_by(state, number, repeats(state, number, window))
 }
 
 // What an ask's number makes it, beside what is kept, told whether it asks for the same as the kept one.
-pub fn turn_by(state: &[u64], number: u16, same: bool) -> Turn
+pub fn turn_by(state: &[u64], number: u16, same: bool) -> Result<Turn, NoTurn>
     ensures { result ≡ turn_by state.now number same }
 {
     if state.len() < STATE_WORDS {
-        return Turn::OutOfTurn;
+        return Err(NoTurn::OutOfTurn);
     }
     if state[KEPT] != 0 {
         return turn_after(state, number, same);
     }
     if number == 1 {
-        Turn::NewAsk
+        Ok(Turn::NewAsk)
     } else {
-        Turn::OutOfTurn
+        Err(NoTurn::OutOfTurn)
     }
 }
 
 // The number that the next new ask bears.
-pub fn next(state: &[u64]) -> NextAnswer
+#[tactic(auto, unfolding(crate::specs::Meaning::next_means))]
+pub fn next(state: &[u64]) -> Result<u16, WrongMemory>
     ensures { NextPromise state.now result }
 {
     if state.len() < STATE_WORDS {
-        return NextAnswer::WrongMemory;
+        return Err(WrongMemory);
     }
     if state[KEPT] == 0 {
-        return NextAnswer::Number(1);
+        return Ok(1);
     }
     following(state[NUMBER])
-}
-
-// Document 01's number of what the number of the next ask answers, 0 where it is accepted.
-pub fn next_number(a: NextAnswer) -> u8
-    ensures { result ≡ number_of (next_paper a) }
-{
-    match a {
-        NextAnswer::Number(_) => 0,
-        NextAnswer::WrongMemory => 13,
-    }
 }
 
 // Whether an ask of a window bears the last number and asks for the same as the kept one.
 fn repeats(state: &[u64], number: u16, window: Window) -> bool
     ensures { result ≡ repeats_in state.now number (Asked.window window) }
 {
-    if state.len() < STATE_WORDS {
-        return false;
-    }
-    if is_last(state, number) {
-        return same_ask(state, window);
-    }
-    false
+    STATE_WORDS <= state.len() && is_last(state, number) && same_ask(state, window)
 }
 
 // What an ask's number makes it after an accepted ask, told whether it asks for the same.
-fn turn_after(state: &[u64], number: u16, same: bool) -> Turn
+fn turn_after(state: &[u64], number: u16, same: bool) -> Result<Turn, NoTurn>
     requires { state_words ≤ length state.now }
     ensures { result ≡ turn_told (last_in state.now) number same }
 {
     if is_last(state, number) {
         if same {
-            last_ask(state)
+            Ok(Turn::LastAsk(state[SUM]))
         } else {
-            Turn::OtherAsk
+            Err(NoTurn::OtherAsk)
         }
     } else if follows(number, state[NUMBER]) {
-        Turn::NewAsk
+        Ok(Turn::NewAsk)
     } else {
-        Turn::OutOfTurn
+        Err(NoTurn::OutOfTurn)
     }
 }
 
@@ -174,28 +182,17 @@ fn is_last(state: &[u64], number: u16) -> bool
     requires { state_words ≤ length state.now }
     ensures { result ≡ eqb number (get_or state.now number_at 0) }
 {
-    number as u64 == state[NUMBER]
+    u64::from(number) == state[NUMBER]
 }
 
-// The kept ask repeated, with its sum.
-fn last_ask(state: &[u64]) -> Turn
-    requires { state_words ≤ length state.now }
-    ensures { result ≡ Turn.LastAsk (get_or state.now sum_at 0) }
-{
-    Turn::LastAsk(state[SUM])
-}
-
-// Whether a number is the one after another: 0 after 65535.
+// Whether a number is the one after another.
 fn follows(number: u16, last: u64) -> bool
     ensures { result ≡ eqb number (next_of last) }
 {
-    if last == 65535 {
-        return number == 0;
+    match following(last) {
+        Ok(next) => number == next,
+        Err(WrongMemory) => false,
     }
-    if 65535 < last {
-        return false;
-    }
-    number as u64 == last + 1
 }
 
 // Whether the kept ask is one of this window; a packet's is not.
@@ -203,10 +200,7 @@ fn same_ask(state: &[u64], window: Window) -> bool
     requires { state_words ≤ length state.now }
     ensures { result ≡ same_asked (asked_in state.now) (Asked.window window) }
 {
-    if state[KEPT] == PACKET_ASK {
-        return false;
-    }
-    same_window(state, window)
+    state[KEPT] != PACKET_ASK && same_window(state, window)
 }
 
 // Whether the kept window is this one, clear or keep included.
@@ -214,37 +208,17 @@ fn same_window(state: &[u64], window: Window) -> bool
     requires { state_words ≤ length state.now }
     ensures { result ≡ same_of (window_in state.now) window }
 {
-    if state[ADDRESS] != window.address as u64 {
-        return false;
-    }
-    if state[XSIZE] != window.xsize as u64 {
-        return false;
-    }
-    if state[YSIZE] != window.ysize as u64 {
-        return false;
-    }
-    if state[YSTRIDE] != window.ystride as u64 {
-        return false;
-    }
-    same_flag(state[CLEAR] != 0, window.clear)
+    state[ADDRESS] == u64::from(window.address)
+        && state[XSIZE] == u64::from(window.xsize)
+        && state[YSIZE] == u64::from(window.ysize)
+        && state[YSTRIDE] == u64::from(window.ystride)
+        && (state[CLEAR] != 0) == window.clear
 }
 
-// Whether two flags are the same.
-fn same_flag(a: bool, b: bool) -> bool
-    ensures { result ≡ same_flag a b }
-{
-    if a { b } else { !b }
-}
-
-// The number after the last accepted one: 0 after 65535.
-fn following(last: u64) -> NextAnswer
+// The number after the last accepted one: 0 after 65535; none after a number that no ask bears.
+fn following(last: u64) -> Result<u16, WrongMemory>
     ensures { next_paper result ≡ next_after_last last }
 {
-    if 65535 < last {
-        return NextAnswer::WrongMemory;
-    }
-    if last == 65535 {
-        return NextAnswer::Number(0);
-    }
-    NextAnswer::Number((last + 1) as u16)
+    let last = u16::try_from(last).map_err(|_| WrongMemory)?;
+    Ok(last.wrapping_add(1))
 }

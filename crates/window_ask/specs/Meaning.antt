@@ -1,12 +1,14 @@
 -- The numbered ask for a window's sum, in document 01's words and order: taken once for each number, and the kept sum answered again.
 -- Assumes nothing.
-use Rattle.std.specs.Prelude.{not, List, ℕ}
+use Rattle.std.specs.Prelude.{not, List, ℕ, Result, Ok, Err}
 use Rattle.ground.specs.Outcome.{Outcome, accept, refuse, onward_to}
 use Rattle.pages.specs.Meaning.{take_means, walk_taken, window_walk}
 use Rattle.pages.specs.declared.Window.{Window}
+use Rattle.state.specs.Answers.{no_turn}
 use Rattle.state.specs.Turns.{turn_of}
 use Rattle.state.specs.Words.{window, keep_in, kept_in, page_in}
-use Rattle.state.specs.declared.Turn.TheVariants.{NewAsk, LastAsk, OtherAsk, OutOfTurn}
+use Rattle.state.specs.declared.NoTurn.{NoTurn}
+use Rattle.state.specs.declared.Turn.TheVariants.{NewAsk, LastAsk}
 use Rattle.state.specs.declared.Turn.{Turn}
 use Rattle.histogram.specs.Meaning.{CallOutcome, new, again, admitted, lent}
 
@@ -23,11 +25,10 @@ unfoldable pub new_means : List ℕ → List ℕ → ℕ → Window → CallOutc
 new_means memory state number w = taking state number w (take_means memory (not (page_in state)) w)
 
 -- "The last accepted number with the same window answers the kept sum as again"; refusals 18 or 17
-abbrev pub turn_means : Turn → List ℕ → List ℕ → ℕ → Window → CallOutcome
-turn_means NewAsk memory state number w = new_means memory state number w
-turn_means (LastAsk sum) memory state number w = accept (again sum) (lent memory state)
-turn_means OtherAsk memory state number w = refuse 18 (lent memory state)
-turn_means OutOfTurn memory state number w = refuse 17 (lent memory state)
+abbrev pub turn_means : Result Turn NoTurn → List ℕ → List ℕ → ℕ → Window → CallOutcome
+turn_means (Ok NewAsk) memory state number w = new_means memory state number w
+turn_means (Ok (LastAsk sum)) memory state number w = accept (again sum) (lent memory state)
+turn_means (Err why) memory state number w = refuse (no_turn.number why) (lent memory state)
 
 -- an ask; refusals 13, then 18 or 17, 14, 16; a repeat meets only 13
 unfoldable pub ask_means : List ℕ → List ℕ → ℕ → Window → CallOutcome

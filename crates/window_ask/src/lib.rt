@@ -1,125 +1,116 @@
 // Sums of windows asked for by number: a window of the idle page taken once for each number, and the kept sum answered again.
 #![tactic(auto)]
 
-ghost use Rattle.std.specs.Prelude.{not, ◌≡◌, ◌≤◌, length};
-ghost use Rattle.ground.specs.Paper.{number_of};
-ghost use Rattle.state.specs.Words.{flag_of, keep_in, page_in, state_words};
-ghost use Rattle.window_ask.specs.Answers.{ask_paper};
+ghost use Rattle.std.specs.Prelude.{◌≡◌, ◌≤◌, length};
+ghost use Rattle.state.specs.Words.{keep_in, state_words};
+ghost use Rattle.window_ask.specs.Answers.{not_asked};
 ghost use Rattle.window_ask.specs.Promise.{AskPromise, NewPromise};
+ghost use Rattle.window_ask.specs.declared.NotAsked.TheVariants as not;
 
+use ground::Numbered;
+use histogram::admit;
 pub use pages::Window;
-use pages::{Taken, take};
+use pages::{NotTaken, take};
 use state::{
-    ADDRESS, CLEAR, KEPT, NUMBER, SECOND, SUM, Turn, WINDOW_ASK, XSIZE, YSIZE, YSTRIDE, fitting,
-    turn_of,
+    ADDRESS, CLEAR, KEPT, NUMBER, NoTurn, SUM, Turn, WINDOW_ASK, WrongMemory, XSIZE, YSIZE,
+    YSTRIDE, second_active, turn_of,
 };
 
-// What an ask answers: its sum, new or again, or why not.
-#[derive(Clone, Copy)]
-pub enum AskAnswer {
+// What an accepted ask answers: its sum, new, or the kept one again.
+#[derive(Clone, Copy, Debug, PartialEq, Eq)]
+pub enum Answered {
     New { sum: u64 },
     Again { sum: u64 },
-    WrongMemory,
-    WrongCell,
-    AboveFull,
-    OutOfTurn,
-    OtherAsk,
+}
+
+// Why an ask is refused: its memory is not the state's own, it is not its turn, or its window is not taken.
+#[derive(Clone, Copy, Debug, PartialEq, Eq)]
+pub enum NotAsked {
+    Memory(WrongMemory),
+    Turn(NoTurn),
+    Window(NotTaken),
+}
+
+impl Numbered for NotAsked {
+    ghost refusals = { not_asked };
+
+    fn number(&self) -> u8 {
+        match self {
+            NotAsked::Memory(why) => why.number(),
+            NotAsked::Turn(why) => why.number(),
+            NotAsked::Window(why) => why.number(),
+        }
+    }
+}
+
+impl From<WrongMemory> for NotAsked {
+    ghost from_gives = { λ why e. e ≡ not.Memory why };
+
+    fn from(why: WrongMemory) -> NotAsked {
+        NotAsked::Memory(why)
+    }
+}
+
+impl From<NoTurn> for NotAsked {
+    ghost from_gives = { λ why e. e ≡ not.Turn why };
+
+    fn from(why: NoTurn) -> NotAsked {
+        NotAsked::Turn(why)
+    }
+}
+
+impl From<NotTaken> for NotAsked {
+    ghost from_gives = { λ why e. e ≡ not.Window why };
+
+    fn from(why: NotTaken) -> NotAsked {
+        NotAsked::Window(why)
+    }
 }
 
 // Sums a window of the idle page, once for each number: the same number and window again answers the sum that was kept.
-pub fn ask(memory: &mut [u32], state: &mut [u64], number: u16, window: Window) -> AskAnswer
-    ensures { AskPromise memory.old state.old number window result memory.new state.new }
-{
-    if !fitting(memory.len(), state) {
-        return AskAnswer::WrongMemory;
-    }
-    let turn = turn_of(state, number, window);
-    match turn {
-        Turn::NewAsk => new_ask(memory, state, number, window),
-        Turn::LastAsk(sum) => again(sum),
-        Turn::OtherAsk => AskAnswer::OtherAsk,
-        Turn::OutOfTurn => AskAnswer::OutOfTurn,
-    }
-}
-
-// Document 01's number of what an ask answers, 0 where it is accepted.
-pub fn ask_number(a: AskAnswer) -> u8
-    ensures { result ≡ number_of (ask_paper a) }
-{
-    match a {
-        AskAnswer::New { sum: _ } => 0,
-        AskAnswer::Again { sum: _ } => 0,
-        AskAnswer::WrongMemory => 13,
-        AskAnswer::WrongCell => 14,
-        AskAnswer::AboveFull => 16,
-        AskAnswer::OutOfTurn => 17,
-        AskAnswer::OtherAsk => 18,
-    }
-}
-
-// A new ask: it works on the idle page.
-fn new_ask(memory: &mut [u32], state: &mut [u64], number: u16, window: Window) -> AskAnswer
-    requires { state_words ≤ length state.old }
-    ensures { NewPromise memory.old state.old number window result memory.new state.new }
-{
-    let idle = idle_page(state);
-    ask_idle(memory, state, idle, number, window)
-}
-
-// The idle page: whether it is the second.
-fn idle_page(state: &[u64]) -> bool
-    requires { state_words ≤ length state.now }
-    ensures { result ≡ not (page_in state.now) }
-{
-    let second = state[SECOND] != 0;
-    !second
-}
-
-// A new ask of the idle page: refused with the state as it was, or its window taken and its sum kept.
-fn ask_idle(
+#[tactic(auto, unfolding(crate::specs::Meaning::ask_means))]
+pub fn ask(
     memory: &mut [u32],
     state: &mut [u64],
-    idle: bool,
     number: u16,
     window: Window,
-) -> AskAnswer
-    requires { (state_words ≤ length state.old) × (idle ≡ not (page_in state.old)) }
-    ensures { NewPromise memory.old state.old number window result memory.new state.new }
+) -> Result<Answered, NotAsked>
+    ensures { AskPromise memory.old state.old number window result memory.new state.new }
 {
-    let taken = take(memory, idle, window);
-    match taken {
-        Taken::Sum(sum) => keep(state, number, window, sum),
-        Taken::WrongCell => AskAnswer::WrongCell,
-        Taken::AboveFull => AskAnswer::AboveFull,
+    admit(memory, state)?;
+    match turn_of(state, number, window)? {
+        Turn::NewAsk => new_ask(memory, state, number, window),
+        Turn::LastAsk(sum) => Ok(Answered::Again { sum }),
     }
 }
 
-// The sum of a new ask, answered and kept.
-fn keep(state: &mut [u64], number: u16, window: Window, sum: u64) -> AskAnswer
+// A new ask: it takes its window of the idle page, and its sum is kept.
+#[tactic(auto, unfolding(crate::specs::Meaning::new_means))]
+fn new_ask(
+    memory: &mut [u32],
+    state: &mut [u64],
+    number: u16,
+    window: Window,
+) -> Result<Answered, NotAsked>
     requires { state_words ≤ length state.old }
-    ensures { (result ≡ AskAnswer.New sum) × (state.new ≡ keep_in state.old number window sum) }
+    ensures { NewPromise memory.old state.old number window result memory.new state.new }
+{
+    let sum = take(memory, !second_active(state), window)?;
+    keep(state, number, window, sum);
+    Ok(Answered::New { sum })
+}
+
+// Keeps a new ask and its sum.
+fn keep(state: &mut [u64], number: u16, window: Window, sum: u64)
+    requires { state_words ≤ length state.old }
+    ensures { state.new ≡ keep_in state.old number window sum }
 {
     state[KEPT] = WINDOW_ASK;
-    state[NUMBER] = number as u64;
-    state[ADDRESS] = window.address as u64;
-    state[XSIZE] = window.xsize as u64;
-    state[YSIZE] = window.ysize as u64;
-    state[YSTRIDE] = window.ystride as u64;
-    state[CLEAR] = flag(window.clear);
+    state[NUMBER] = u64::from(number);
+    state[ADDRESS] = u64::from(window.address);
+    state[XSIZE] = u64::from(window.xsize);
+    state[YSIZE] = u64::from(window.ysize);
+    state[YSTRIDE] = u64::from(window.ystride);
+    state[CLEAR] = u64::from(window.clear);
     state[SUM] = sum;
-    AskAnswer::New { sum }
-}
-
-// A flag's word.
-fn flag(b: bool) -> u64
-    ensures { result ≡ flag_of b }
-{
-    if b { 1 } else { 0 }
-}
-
-// The kept sum answered again.
-fn again(sum: u64) -> AskAnswer
-    ensures { result ≡ AskAnswer.Again sum }
-{
-    AskAnswer::Again { sum }
 }

@@ -1,34 +1,34 @@
--- `histogram::feed` meets its contract. The loop's invariant: so many are counted, and the rest is still to come.
+-- `histogram::feed` meets its contract. Where the next is not counted, counting left the memory as it was.
 -- Assumes nothing.
-use mathlib.Core.Path.{sym, ap, ◌∙◌}
-use Prim.Native.Nat.{ℕ}
-use borrow.Author.Rules.{rules}
-use Rattle.ground.specs.Outcome.{accept}
-use Rattle.histogram.proofs.Feeding.{feeding_none, feeding_more, feeding_ends, feeding_done}
+use mathlib.Core.Path.{◌≡◌, ◌∙◌, sym}
+use mathlib.Core.Bool.{Bool}
+use mathlib.Core.List.{List}
+use Prim.Native.Nat.{ℕ, ◌<◌}
+use native.Mathlib.Omega.{arith}
+use lib.ListN.{drop, get_or, length}
+use lib.Seq.{drop-cons}
+use Rattle.std.specs.Prelude.{Err}
+use Rattle.ground.specs.Outcome.{Refuses, accept, refused_left}
+use Rattle.pages.specs.Answers.{not_counted}
+use Rattle.pages.specs.Outcomes.{count_stays}
+use Rattle.pages.specs.Promise.{CountPromise}
+use Rattle.pages.specs.declared.NotCounted.{NotCounted}
+use Rattle.histogram.specs.Meaning.{feed_of}
 use Rattle.histogram.proofs.feed.Goals as goal
 
-pub loop-done-init : goal.loop-done-init
-loop-done-init c = feeding_none _ _ _
+-- no particle is refused by 0
+refuses : (why : NotCounted) → Refuses (not_counted.number why)
+refuses NotCounted.WrongAddress e = omega arith
+refuses NotCounted.Full e = omega arith
+refuses NotCounted.AboveFull e = omega arith
 
-pub shape_of-memory-then-ended-ne0 : goal.shape_of-memory-then-ended-ne0
-shape_of-memory-then-ended-ne0 c =
-    c.count.auto.memory ∙ c.loop-done.invariant.long
+-- the next would be refused
+ends : (m : List ℕ) (page : Bool) (addresses : List ℕ) (i : ℕ) → i < length addresses → {why : NotCounted} {m' : List ℕ}
+    → CountPromise m page (get_or addresses i 0) (Err why) m'
+    → accept (record { count = i; ended = not_counted.number why }) m' ≡ feed_of i m page (drop i addresses)
+ends m page addresses i h {why} p =
+    let left = refused_left p.outcome (count_stays m page (get_or addresses i 0)) (refuses why) in
+    rw (drop-cons addresses i 0 h, ← p.outcome, left)
 
-pub returns-then-ended-ne0 : goal.returns-then-ended-ne0
-returns-then-ended-ne0 c =
-    let number = c.count_number-ended.ensures in
-    let loop = c.loop-done in
-    ap (λ (n : ℕ). accept (record { count = loop.done; ended = n }) c.count.new.memory) number
-    ∙ feeding_ends loop.invariant (search rules) c.count.ensures (λ z. c.if-ended-ne0.true (number ∙ z))
-
-pub loop-done-preserved : goal.loop-done-preserved
-loop-done-preserved c =
-    let number = c.count_number-ended.ensures in
-    let loop = c.loop-done in
-    feeding_more loop.invariant (search rules) c.count.ensures c.count.auto.memory (sym number ∙ c.if-ended-ne0.false)
-
-pub shape_of-memory : goal.shape_of-memory
-shape_of-memory c = c.loop-done.invariant.long
-
-pub returns : goal.returns
-returns c = feeding_done c.loop-done.invariant (search rules)
+pub returns-in-Err : goal.returns-in-Err
+returns-in-Err c = ends _ _ _ _ c.loop-done-test.true c.in-Err.ensures ∙ sym c.loop-done.invariant

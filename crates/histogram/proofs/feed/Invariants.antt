@@ -1,12 +1,9 @@
 -- `histogram::feed` meets its contract. The loop's invariant: so many are counted, and the rest is still to come.
 -- Assumes nothing.
-use Prim.Native.Nat.{◌-◌}
-use lib.ListN.{length}
-use Rattle.histogram.proofs.Feeding.{Feeding}
+use mathlib.Core.Path.{◌≡◌}
+use lib.ListN.{drop}
+use Rattle.histogram.specs.Meaning.{feed_of}
 use Rattle.histogram.proofs.feed.Given as goal
 
 abbrev pub invariant-loop-done : goal.invariant-loop-done
-invariant-loop-done l = Feeding l.initial.memory l.second l.addresses l.memory l.done
-
-abbrev pub decreases-loop-done : goal.decreases-loop-done
-decreases-loop-done l = length l.addresses - l.done
+invariant-loop-done l = feed_of 0 l.initial.memory l.second l.addresses ≡ feed_of l.done l.memory l.second (drop l.done l.addresses)

@@ -1,2 +1,0 @@
-mod Saying
-mod Turning
