@@ -4,4 +4,5 @@ pub mod Root
 pub mod Sixteen
 pub mod Folds
 pub mod Reading
+pub mod Chunks
 pub mod Covering

@@ -23,7 +23,7 @@ pub fn checksum(bytes: &[u8]) -> u16
     ensures { ChecksumPromise bytes.now result }
 {
     if bytes.len() < 16 {
-        return rest(bytes, 0, 0xffff);
+        return rest(bytes, 0xffff);
     }
     long(bytes)
 }
@@ -58,45 +58,40 @@ fn long(bytes: &[u8]) -> u16
     ensures { result ≡ run 0xffff bytes.now }
 {
     let mut fold = opened(bytes);
-    let mut i = 16;
-    while 4 <= bytes.len() - i {
-        fold = folded(fold, word(bytes, i));
-        i += 4;
+    let (words, tail) = bytes[16..].as_chunks::<4>();
+    for word in words {
+        fold = folded(fold, u32::from_be_bytes(*word));
     }
-    rest(bytes, i, closed(fold))
+    rest(tail, closed(fold))
 }
 
-// The register after the bytes from a place on, two at a time and then a last one.
-fn rest(bytes: &[u8], at: usize, register: u16) -> u16
-    requires { at ≤ length bytes.now }
-    ensures { result ≡ run register (drop at bytes.now) }
+// The register after further bytes, two at a time and then a last one.
+fn rest(bytes: &[u8], register: u16) -> u16
+    ensures { result ≡ run register bytes.now }
 {
     let mut kept = register;
-    let mut i = at;
-    while 2 <= bytes.len() - i {
-        kept = joined(kept, pair(bytes, i));
-        i += 2;
+    let (pairs, tail) = bytes.as_chunks::<2>();
+    for pair in pairs {
+        kept = joined(kept, u16::from_be_bytes(*pair));
     }
-    last(bytes, i, kept)
+    last(tail, kept)
 }
 
 // The register after two bytes more, by their number.
-fn joined(register: u16, two: u32) -> u16
-    requires { two < 2 ^ 16 }
+fn joined(register: u16, two: u16) -> u16
     ensures { result ≡ sixteen (bit_xor register two) }
 {
-    shifted(register ^ (two as u16))
+    shifted(register ^ two)
 }
 
 // The register after a last byte, where there is one.
-fn last(bytes: &[u8], at: usize, register: u16) -> u16
-    requires { length bytes.now ≤ at + 1 }
-    ensures { result ≡ run register (drop at bytes.now) }
+fn last(bytes: &[u8], register: u16) -> u16
+    requires { length bytes.now ≤ 1 }
+    ensures { result ≡ run register bytes.now }
 {
-    if at < bytes.len() {
-        stepped(register, bytes[at])
-    } else {
-        register
+    match bytes.first() {
+        Some(byte) => stepped(register, *byte),
+        None => register,
     }
 }
 
@@ -183,22 +178,7 @@ fn word(bytes: &[u8], at: usize) -> u32
     requires { at + 4 ≤ length bytes.now }
     ensures { Word bytes.now at result }
 {
-    pair(bytes, at) * 65536 + pair(bytes, at + 2)
-}
-
-// The number of two bytes at a place.
-fn pair(bytes: &[u8], at: usize) -> u32
-    requires { at + 2 ≤ length bytes.now }
-    ensures { Pair bytes.now at result }
-{
-    wide(bytes[at]) * 256 + wide(bytes[at + 1])
-}
-
-// A byte as a word.
-fn wide(byte: u8) -> u32
-    ensures { (result ≡ byte) × (result < 256) }
-{
-    byte as u32
+    u32::from_be_bytes([bytes[at], bytes[at + 1], bytes[at + 2], bytes[at + 3]])
 }
 
 // The register after one byte more.
