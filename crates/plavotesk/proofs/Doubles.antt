@@ -3,26 +3,22 @@
 use mathlib.Core.Path.{◌≡◌, sym, ap, ap₂, subst, ◌∙◌}
 use mathlib.Core.List.{List}
 use Prim.Native.Nat.{ℕ}
-use Rattle.rate.specs.Answers.{rate_paper, reading_paper}
+use Rattle.std.specs.Prelude.{Ok}
 use Rattle.rate.specs.Numbers.{RateNumbers, ReadingNumbers, rate_numbers, reading_numbers}
 use Rattle.rate.specs.Promise.{RatePromise, ReadingPromise}
-use Rattle.rate.specs.declared.RateAnswer.{RateAnswer}
-use Rattle.rate.specs.declared.RateAnswer.TheVariants.{Formed}
-use Rattle.rate.specs.declared.ReadingAnswer.{ReadingAnswer}
-use Rattle.rate.specs.declared.ReadingAnswer.TheVariants.{Counts}
-use Rattle.rate.specs.declared.record.Rate.{Rate}
+use Rattle.rate.specs.declared.Counts.{Counts}
+use Rattle.rate.specs.declared.Formed.{Formed}
 use Rattle.rate.specs.declared.record.Reading.{Reading}
 use Rattle.plavotesk.specs.Meaning.{Edges, Quotients}
 
 -- a rate that was formed holds numbers
-pub formed_numbers : {bytes : List ℕ} {at d level : ℕ} {a : RateAnswer} {rate : Rate} {next : ℕ} → RatePromise bytes at d level a
-    → a ≡ Formed rate next → RateNumbers rate
-formed_numbers {bytes} {at} {d} {level} p e = rate_numbers bytes at d level (sym p.answer ∙ ap rate_paper e)
+pub formed_numbers : {bytes : List ℕ} {at d level : ℕ} {formed : Formed} → RatePromise bytes at d level (Ok formed) → RateNumbers formed.rate
+formed_numbers {bytes} {at} {d} {level} p = rate_numbers bytes at d level (sym p.answer)
 
 -- so does a reading that was read
-pub read_numbers : {bytes : List ℕ} {at d : ℕ} {a : ReadingAnswer} {reading shown : Reading} {next : ℕ} → ReadingPromise bytes at d a
-    → a ≡ Counts reading next → reading ≡ shown → ReadingNumbers shown
-read_numbers {bytes} {at} {d} p e f = subst ReadingNumbers f (reading_numbers bytes at d (sym p.answer ∙ ap reading_paper e))
+pub read_numbers : {bytes : List ℕ} {at d : ℕ} {counts : Counts} {shown : Reading} → ReadingPromise bytes at d (Ok counts) → counts.reading ≡ shown
+    → ReadingNumbers shown
+read_numbers {bytes} {at} {d} p e = subst ReadingNumbers e (reading_numbers bytes at d (sym p.answer))
 
 -- places that hold the same bits
 pub same_quotients : {a b c x y z : ℕ} (next : ℕ) → a ≡ x → b ≡ y → c ≡ z

@@ -16,10 +16,6 @@ use types.Run.{OneOf, miss}
 use Rattle.ground.specs.Outcome.{Outcome, outcome_of}
 use Rattle.ground.specs.Paper.{Paper, accepted, refusal, refused, number_of}
 use Rattle.ground.specs.Refusals.{Refusals, on_paper}
-use Rattle.code.specs.contracts.Refusal.{the_type}
-use Rattle.code.specs.Answers.{refusal_carries}
-use Rattle.code.specs.declared.Refusal.{Refusal}
-use Rattle.code.specs.declared.Refusal.TheVariants.{OutsideRule, RanOut, RedundantZero, RunTooLong}
 use Rattle.plavotesk.specs.Meaning.{carried_to, told, told_as, told_missing, told_with}
 use Rattle.plavotesk.specs.Promise.{Sentence}
 
@@ -56,27 +52,17 @@ module _ {A X : Type 0} (places : A → X) (held : X) {R : Type 0} (paper : R �
       ap (λ (x : ℕ). (x, held)) (k ∙ ap number_of (ap paper e ∙ r))
       ∙ ap (λ (q : Paper A). told_as places q held) (sym (ap paper e ∙ r) ∙ p)
 
-module _ {A X : Type 0} (places : A → X) (held : X) (missing : ℕ) {R : Type 0} (paper : R → Paper A) where
+module _ {A X : Type 0} (places : A → X) (held : X) (missing : ℕ) {means : Paper A} where
   -- a call that reads codes, accepted: the place of the bits missing keeps what it held
-  pub reads : {a s : R} {values : A} {means : Paper A} → paper a ≡ means → a ≡ s → paper s ≡ accepted values
-      → ◌≡◌ {A = (ℕ × X) × ℕ} ((0, places values), missing) (told_missing places means held missing)
-  unfolding carried_to
-  reads p e v = with_memory_lem (accepts places held paper p e v) (ap (λ (q : Paper A). carried_to q missing) (sym (ap paper e ∙ v) ∙ p))
+  pub reads : {values : A} → accepted values ≡ means → ◌≡◌ {A = (ℕ × X) × ℕ} ((0, places values), missing) (told_missing places means held missing)
+  unfolding told_as carried_to
+  reads p = ap (λ (q : Paper A). told_missing places q held missing) p
 
   -- refused: its number, what the other places held, and what it carries
-  pub refuses_reading : {a s : R} {n k m : ℕ} {carried : List ℕ} {means : Paper A} → paper a ≡ means → a ≡ s → paper s ≡ refusal n carried → k ≡ n
-      → m ≡ get_or carried 0 missing → ◌≡◌ {A = (ℕ × X) × ℕ} ((k, held), m) (told_missing places means held missing)
+  pub refuses_reading : {n k m : ℕ} {carried : List ℕ} → refusal n carried ≡ means → k ≡ n → m ≡ get_or carried 0 missing
+      → ◌≡◌ {A = (ℕ × X) × ℕ} ((k, held), m) (told_missing places means held missing)
   unfolding told_as carried_to
-  refuses_reading p e r i j =
-      with_memory_lem (ap (λ (x : ℕ). (x, held)) i) j
-      ∙ ap (λ (q : Paper A). told_missing places q held missing) (sym (ap paper e ∙ r) ∙ p)
-
--- no other refusal than 9 carries a number
-pub carries_none : (why : Refusal) → OneOf (0 ∷ 2 ∷ 3 ∷ []) (tag_of the_type why) → (held : ℕ) → held ≡ get_or (refusal_carries why) 0 held
-carries_none OutsideRule o held = refl
-carries_none (RanOut missing) o held = absurd (miss (0 ∷ 2 ∷ 3 ∷ []) 1 tt o)
-carries_none RedundantZero o held = refl
-carries_none RunTooLong o held = refl
+  refuses_reading p i j = with_memory_lem (ap (λ (x : ℕ). (x, held)) i) j ∙ ap (λ (q : Paper A). told_missing places q held missing) p
 
 module _ {A L : Type 0} (held : A) {R : Type 0} (paper : R → Paper A) (a : R) {after : L} {o : Outcome A L} (p : outcome_of (paper a) after ≡ o) where
   -- the same with what the call leaves: accepted
