@@ -3,7 +3,7 @@
 use Rattle.std.specs.Prelude.{◌≡◌, refl, List, ℕ, Result, Ok, Err}
 use Rattle.std.proofs.Common.{ap}
 use Rattle.ground.specs.Outcome.{Outcome, outcome_of, outcome_one}
-use Rattle.ground.specs.Paper.{Paper, accepted, refusal, mapped, one_answer}
+use Rattle.ground.specs.Paper.{Paper, accepted, refusal, number_of, mapped, one_answer, one_value}
 
 -- a refusal's number, what it carries, and the one that reads so
 pub record Refusals (E : Type 0) : Type 0 where
@@ -26,6 +26,16 @@ off_paper rs (refusal n carried) = Err (rs.back n carried)
 pub off_on_paper : {V E : Type 0} (rs : Refusals E) (r : Result V E) → off_paper rs (on_paper rs r) ≡ r
 off_on_paper rs (Ok x) = refl
 off_on_paper {V} {E} rs (Err e) = ap (λ (f : E). Err f) (rs.home e)
+
+-- one number for an answer
+pub answer_number_one : {V E : Type 0} (rs : Refusals E) (answer : Result V E) {m n : ℕ} → m ≡ number_of (on_paper rs answer)
+    → n ≡ number_of (on_paper rs answer) → m ≡ n
+answer_number_one rs answer p q = one_value p q
+
+-- an answer whose value is read in document 01's words has the number that it had
+pub mapped_number : {A B : Type 0} (f : A → B) (p : Paper A) → number_of (mapped f p) ≡ number_of p
+mapped_number f (accepted x) = refl
+mapped_number f (refusal n carried) = refl
 
 -- two results that read the same on paper are the same result
 pub one_result : {V E : Type 0} (rs : Refusals E) {x y : Result V E} {p : Paper V} → on_paper rs x ≡ p → on_paper rs y ≡ p → x ≡ y
