@@ -1,30 +1,30 @@
 -- Request 2026-02: "Everything that reads codes hands this number on unchanged". For any two outcomes, of reading the shape and of a call that reads codes:
 -- where the one ran out with a number of bits missing, so did the other, with the same number.
 -- Assumes nothing.
-use Rattle.std.specs.Prelude.{◌≡◌, refl, List, ℕ, ltb, get_or}
+use Rattle.std.specs.Prelude.{◌≡◌, refl, List, ℕ, ltb, get_or, Result, Err}
 use Rattle.std.proofs.Common.{sym, ap, subst, ◌∙◌, arith}
 use Rattle.std.specs.Borrow.{Bor}
 use Rattle.ground.specs.Choice.{pick_elim}
-use Rattle.ground.specs.Paper.{Paper, accepted, refusal, refused, refused_with, number_of, onward, handed_on}
-use Rattle.code.specs.Answers.{shape_paper, shape_back, shape_home, unpacked_paper, unpacked_back, unpacked_home}
+use Rattle.ground.specs.Paper.{Paper, accepted, refusal, refused, refused_with, number_of, onward, mapped, handed_on}
+use Rattle.ground.specs.Refusals.{off_paper, off_on_paper_as}
+use Rattle.code.specs.Answers.{not_read, shape_paper, shape_values, shape_back, unpacked_paper, unpack_values, unpack_back}
 use Rattle.code.specs.Meaning.{ShapeValues, UnpackValues, number_read, shape_means, unpack_means}
 use Rattle.code.specs.Missing.{NineAlone, nine_alone, onward_nine_alone}
 use Rattle.code.specs.Promise.{ShapePromise, UnpackPromise}
+use Rattle.code.specs.declared.Refusal.{Refusal}
 use Rattle.code.specs.declared.Refusal.TheVariants.{RanOut}
-use Rattle.code.specs.declared.ShapeAnswer.{ShapeAnswer}
-use Rattle.code.specs.declared.ShapeAnswer.TheVariants as S
+use Rattle.code.specs.declared.Shape.{Shape}
 use Rattle.code.specs.declared.Unpacked.{Unpacked}
-use Rattle.code.specs.declared.Unpacked.TheVariants as U
 use Rattle.cadence.specs.Meaning.{length_of, seconds_means}
 use Rattle.reader.specs.Promise.{ReaderPromise}
 use Rattle.reader.specs.declared.Reader.{Reader}
-use Rattle.rate.specs.Answers.{reading_paper, reading_back, reading_home, rate_paper, rate_back, rate_home}
+use Rattle.rate.specs.Answers.{reading_paper, counts_values, counts_back, rate_paper, not_formed, formed_values, formed_back}
 use Rattle.rate.specs.Meaning.{RateValues, ReadingValues, negative, rate_means, rate_values, reading_means, shape_reads}
 use Rattle.rate.specs.Promise as rates
-use Rattle.rate.specs.declared.RateAnswer.{RateAnswer}
-use Rattle.rate.specs.declared.RateAnswer.TheVariants as F
-use Rattle.rate.specs.declared.ReadingAnswer.{ReadingAnswer}
-use Rattle.rate.specs.declared.ReadingAnswer.TheVariants as C
+use Rattle.rate.specs.declared.Counts.{Counts}
+use Rattle.rate.specs.declared.Formed.{Formed}
+use Rattle.rate.specs.declared.NotFormed.{NotFormed}
+use Rattle.rate.specs.declared.NotFormed.TheVariants as F
 use Rattle.plavotesk.specs.Meaning.{Edges, Quotients, carried_to, edges_of, quotients_of, told_as, told_missing}
 use Rattle.plavotesk.specs.Promise.{CodeUnpackPromise, ReadingPromise, RatePromise}
 
@@ -76,21 +76,32 @@ answers_alike one one_back one_home other other_back other_home alike x y e f i 
   λ g. sym (one_home x) ∙ ap one_back (e ∙ alike.1 (sym f ∙ ap other g ∙ j)),
 )
 
-module _ (bytes : List ℕ) (at d : ℕ) (a : ShapeAnswer) (p : ShapePromise bytes at d a) (n : ℕ) where
+-- the answers that papers came from
+abbrev shape_off : Paper ShapeValues → Result Shape Refusal
+shape_off p = off_paper not_read (mapped shape_back p)
+
+shape_home : (a : Result Shape Refusal) → shape_off (shape_paper a) ≡ a
+shape_home = off_on_paper_as not_read shape_values shape_back (λ s. refl)
+
+module _ (bytes : List ℕ) (at d : ℕ) (a : Result Shape Refusal) (p : ShapePromise bytes at d a) (n : ℕ) where
   -- `unpack`
-  pub unpack_hands_on : (r : Unpacked) → UnpackPromise bytes at d r → Alike (a ≡ S.Refused (RanOut n)) (r ≡ U.Refused (RanOut n))
+  pub unpack_hands_on : (r : Result Unpacked Refusal) → UnpackPromise bytes at d r → Alike (a ≡ Err (RanOut n)) (r ≡ Err (RanOut n))
   unpack_hands_on r q =
-      answers_alike shape_paper shape_back shape_home unpacked_paper unpacked_back unpacked_home (number_hands_on bytes at d) a r p.answer q.answer refl refl
+      answers_alike shape_paper shape_off shape_home unpacked_paper (λ (p : Paper UnpackValues). off_paper not_read (mapped unpack_back p))
+      (off_on_paper_as not_read unpack_values unpack_back (λ u. refl)) (number_hands_on bytes at d) a r p.answer q.answer refl refl
 
   -- `reading`
-  pub reading_hands_on : (r : ReadingAnswer) → rates.ReadingPromise bytes at d r → Alike (a ≡ S.Refused (RanOut n)) (r ≡ C.Refused (RanOut n))
+  pub reading_hands_on : (r : Result Counts Refusal) → rates.ReadingPromise bytes at d r → Alike (a ≡ Err (RanOut n)) (r ≡ Err (RanOut n))
   reading_hands_on r q =
-      answers_alike shape_paper shape_back shape_home reading_paper reading_back reading_home (counts_hand_on bytes at d) a r p.answer q.answer refl refl
+      answers_alike shape_paper shape_off shape_home reading_paper (λ (p : Paper ReadingValues). off_paper not_read (mapped counts_back p))
+      (off_on_paper_as not_read counts_values counts_back (λ c. refl)) (counts_hand_on bytes at d) a r p.answer q.answer refl refl
 
   -- `rate`, whatever the level
-  pub rate_hands_on : (level : ℕ) (r : RateAnswer) → rates.RatePromise bytes at d level r → Alike (a ≡ S.Refused (RanOut n)) (r ≡ F.Refused (RanOut n))
+  pub rate_hands_on : (level : ℕ) (r : Result Formed NotFormed) → rates.RatePromise bytes at d level r
+      → Alike (a ≡ Err (RanOut n)) (r ≡ Err (F.Refused (RanOut n)))
   rate_hands_on level r q =
-      answers_alike shape_paper shape_back shape_home rate_paper rate_back rate_home both a r p.answer q.answer refl refl
+      answers_alike shape_paper shape_off shape_home rate_paper (λ (p : Paper RateValues). off_paper not_formed (mapped formed_back p))
+      (off_on_paper_as not_formed formed_values formed_back (λ f. refl)) both a r p.answer q.answer refl refl
     where
       both : Alike (shape_means bytes at d ≡ refused_with 9 n) (rate_means bytes at d level ≡ refused_with 9 n)
       both = (
@@ -99,8 +110,8 @@ module _ (bytes : List ℕ) (at d : ℕ) (a : ShapeAnswer) (p : ShapePromise byt
       )
 
 -- the Reader: one that was made over lent bytes, or moved, and is asked
-pub reader_hands_on : (bytes : Bor (List ℕ)) (at d : ℕ) (a : ShapeAnswer) → ShapePromise bytes.now at d a → (n : ℕ) (q : Reader) → ReaderPromise bytes at q
-    → (r : Unpacked) → UnpackPromise q.bytes.now q.at d r → Alike (a ≡ S.Refused (RanOut n)) (r ≡ U.Refused (RanOut n))
+pub reader_hands_on : (bytes : Bor (List ℕ)) (at d : ℕ) (a : Result Shape Refusal) → ShapePromise bytes.now at d a → (n : ℕ) (q : Reader)
+    → ReaderPromise bytes at q → (r : Result Unpacked Refusal) → UnpackPromise q.bytes.now q.at d r → Alike (a ≡ Err (RanOut n)) (r ≡ Err (RanOut n))
 reader_hands_on bytes at d a p n q made r asked =
     unpack_hands_on bytes.now at d a p n r
     (subst (λ (l : Bor (List ℕ)). UnpackPromise l.now at d r) made.lent (subst (λ (k : ℕ). UnpackPromise q.bytes.now k d r) made.place asked))
@@ -113,7 +124,7 @@ nine_told : {A X : Type 0} (places : A → X) (held : X) (missing n : ℕ) {p : 
 unfolding told_as carried_to
 nine_told {A} places held missing n e f = e ∙ ap (λ (q : Paper A). told_missing places q held missing) f
 
-module _ (bytes : List ℕ) (at d n missing : ℕ) (p : ShapePromise bytes at d (S.Refused (RanOut n))) where
+module _ (bytes : List ℕ) (at d n missing : ℕ) (p : ShapePromise bytes at d (Err (RanOut n))) where
   pub plv_code_unpack_tells : (held : UnpackValues) (o : (ℕ × UnpackValues) × ℕ) → CodeUnpackPromise bytes at d held missing o
       → ◌≡◌ {A = (ℕ × UnpackValues) × ℕ} o ((9, held), n)
   plv_code_unpack_tells held o e = nine_told (λ (v : UnpackValues). v) held missing n e ((number_hands_on bytes at d).0 (sym p.answer))

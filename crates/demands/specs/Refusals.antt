@@ -15,7 +15,7 @@ use Rattle.message.specs.Answers as messages
 use Rattle.message.specs.Laws as message
 use Rattle.message.specs.Meaning.{ReadValues, read_means, write_means as message_means}
 use Rattle.message.specs.Promise as said
-use Rattle.code.specs.declared.Packed.{Packed}
+use Rattle.code.specs.declared.NotPacked.{NotPacked}
 use Rattle.code.specs.Answers.{packed_paper}
 use Rattle.code.specs.Meaning.{UnpackValues, pack_means, unpack_means}
 use Rattle.code.specs.Promise.{PackPromise}
@@ -70,12 +70,12 @@ pub message_write_refused : (buffer : List ℕ) (address tag value : ℕ) (r : R
 message_write_refused buffer address tag value r after p = refused_left p.outcome (message.write_stays buffer address tag value)
 
 -- writing a code
-pub pack_refused : (buffer : List ℕ) (at : ℕ) (v : ℤ) (d : ℕ) (r : Packed) (after : List ℕ) → PackPromise buffer at v d r after
+pub pack_refused : (buffer : List ℕ) (at : ℕ) (v : ℤ) (d : ℕ) (r : Result ℕ NotPacked) (after : List ℕ) → PackPromise buffer at v d r after
     → Refuses (number_of (packed_paper r)) → after ≡ buffer
 pack_refused buffer at v d r after p = refused_left p.outcome (pack_stays buffer at v d)
 
 -- so many bits of a number put at a position
-pub field_refused : (buffer : List ℕ) (at x w : ℕ) (r : Packed) (after : List ℕ) → FieldPromise buffer at x w r after
+pub field_refused : (buffer : List ℕ) (at x w : ℕ) (r : Result ℕ NotPacked) (after : List ℕ) → FieldPromise buffer at x w r after
     → Refuses (number_of (packed_paper r)) → after ≡ buffer
 field_refused buffer at x w r after p = refused_left p.outcome (field_stays buffer at x w)
 
