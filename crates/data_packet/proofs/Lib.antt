@@ -1,4 +1,4 @@
-mod Items
-mod Trying
-mod Returns
-mod Building
+pub mod Building
+pub mod Items
+pub mod Returns
+pub mod Trying

@@ -6,6 +6,7 @@ use mathlib.Core.List.{List, [], ◌∷◌, ◌++◌, append_assoc, append-nil}
 use Prim.Native.Nat.{ℕ, ◌+◌, ◌*◌, ◌^◌, ◌≤◌, ◌<◌}
 use native.Mathlib.Numerals.{add-one}
 use native.Mathlib.Omega.{arith}
+use Rattle.std.specs.Prelude.{Result}
 use lib.ListN.{length, length-append, get_or, take}
 use lib.Seq.{length-take-le, take-suc}
 use Rattle.ground.specs.Bits.{bits_of}
@@ -17,7 +18,7 @@ use Rattle.item.specs.Bits.{bits_few}
 use Rattle.item.specs.Filling.{Filled, filled_more, filled_stays}
 use Rattle.item.specs.Meaning.{adds_of, item_bits, window_of}
 use Rattle.item.specs.Promise.{SendPromise}
-use Rattle.item.specs.declared.Sent.{Sent}
+use Rattle.item.specs.declared.NotSent.{NotSent}
 use Rattle.pages.specs.Meaning.{Walk, cells_of, last_of, walk_at}
 use Rattle.pages.specs.Passes.{pass_of}
 use Rattle.pages.specs.declared.Pass.{Pass}
@@ -29,30 +30,30 @@ use Rattle.data_packet.specs.Steps.{Traced, TryPromise, at_after, found_after, m
 use Rattle.data_packet.specs.declared.Found.{Found}
 
 -- what sending answered of an item's bits, right after those that are there
-record Told (b : Paper (List ℕ)) (l : List ℕ) (at : ℕ) (s : Sent) (room room' : List ℕ) : Type 0 where
+record Told (b : Paper (List ℕ)) (l : List ℕ) (at : ℕ) (s : Result ℕ NotSent) (room room' : List ℕ) : Type 0 where
   fits : yes (sent_paper s) ≡ yes b
   next : at_after at (sent_paper s) ≡ length (l ++ bits_or b)
   filled : Filled room' (l ++ bits_or b)
   long : length room' ≡ length room
 
 -- where there is room for the longest bits
-told : {room l room' : List ℕ} {at x r : ℕ} {s : Sent} → SendPromise room at x r s room' → Filled room l → at ≡ length l → length l + 29 ≤ 8 * length room
+told : {room l room' : List ℕ} {at x r : ℕ} {s : Result ℕ NotSent} → SendPromise room at x r s room' → Filled room l → at ≡ length l → length l + 29 ≤ 8 * length room
     → length room ≤ 2 ^ 60 → Told (item_bits x r) l at s room room'
 told {room} {l} {room'} {at} {x} {r} {s} p f here few small =
     paper_elim (λ (b : Paper (List ℕ)). Told b l at s room room') (item_bits x r)
     (λ code e.
     let o = filled_more p f here e (omega (arith, bits_few x r e)) small in
     record {
-      fits = ap (λ (a : Sent). yes (sent_paper a)) o.next;
-      next = ap (λ (a : Sent). at_after at (sent_paper a)) o.next ∙ sym (length-append l code);
+      fits = ap (λ (a : Result ℕ NotSent). yes (sent_paper a)) o.next;
+      next = ap (λ (a : Result ℕ NotSent). at_after at (sent_paper a)) o.next ∙ sym (length-append l code);
       filled = o.filled;
       long = o.long;
     })
     (λ n carried e.
     let o = filled_stays p e in
     record {
-      fits = ap (λ (a : Sent). yes (sent_paper a)) o.0;
-      next = ap (λ (a : Sent). at_after at (sent_paper a)) o.0 ∙ here ∙ ap length (sym (append-nil l));
+      fits = ap (λ (a : Result ℕ NotSent). yes (sent_paper a)) o.0;
+      next = ap (λ (a : Result ℕ NotSent). at_after at (sent_paper a)) o.0 ∙ here ∙ ap length (sym (append-nil l));
       filled = subst (λ (k : List ℕ). Filled k (l ++ [])) (sym o.2) (subst (Filled room) (sym (append-nil l)) f);
       long = ap length o.2;
     })
@@ -117,17 +118,11 @@ tried_few n page t (x ∷ xs) =
     let result = result_of x t.run.result w.sum in
     omega (arith, tried_few n page (try_item n page t x) xs, length-append t.run.bits (bits_or (item_bits x result)), one_few x result)
 
--- how far the first items have come
-pub at_most : (n : ℕ) (page : Bool) (m table : List ℕ) (i : ℕ) {first m' room : List ℕ} {f : Found} → i ≤ length table → length first ≡ 8
-    → Traced (try_items n page (begun m) (take i table)) first f m' room → f.at ≤ 8 + 29 * i
-at_most n page m table i {first} {m'} {room} {f} h e tr =
-    omega (
-      arith,
-      tr.at,
-      length-append first (try_items n page (begun m) (take i table)).run.bits,
-      tried_few n page (begun m) (take i table),
-      length-take-le i table h,
-    )
+-- how far items have come
+pub at_most : (n : ℕ) (page : Bool) (m xs : List ℕ) {first m' room : List ℕ} {f : Found} → length first ≡ 8
+    → Traced (try_items n page (begun m) xs) first f m' room → f.at ≤ 8 + 29 * length xs
+at_most n page m xs {first} {m'} {room} {f} e tr =
+    omega (arith, tr.at, length-append first (try_items n page (begun m) xs).run.bits, tried_few n page (begun m) xs)
 
 -- the pass over an item's window is the definition's
 pub tried_pass : (page : Bool) (x : ℕ) (m after : List ℕ) (own : ℕ) (w : Window) (rule : Pass) → w ≡ window_of x → rule ≡ trial_pass w.clear
@@ -142,7 +137,7 @@ window_inside x {n} e h = subst (λ (v : Window). last_of v < n) (sym e) h
 
 -- one item tried, from its parts
 pub try_made : (m : List ℕ) (page : Bool) (x : ℕ) (f : Found) (room : List ℕ) (r : Found) (m' room' : List ℕ) (own previous total : ℕ) (w : Window)
-    (rule : Pass) (s : Sent)
+    (rule : Pass) (s : Result ℕ NotSent)
     → w ≡ window_of x → rule ≡ trial_pass w.clear → walk_at m' own ≡ pass_of rule (length m) page (walk_at m 0) (cells_of w) → own ≤ most_sum
     → previous ≡ result_of x f.previous own → total ≡ f.total + pick w.clear own 0 → SendPromise room f.at x previous s room'
     → r ≡ found_after f previous total (sent_paper s) → TryPromise m page x f room r m' room'

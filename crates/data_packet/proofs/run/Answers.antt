@@ -1,60 +1,35 @@
--- `data_packet::run` meets its contract: each way in which a table's run ends.
+-- `run` meets its contract: the leading items are tried, what they send is written, and their marks are settled by that.
 -- Assumes nothing.
-use mathlib.Core.Path.{refl}
+use mathlib.Core.Path.{◌≡◌, refl, ◌∙◌}
+use borrow.Author.Rules.{rules}
 use native.Mathlib.Omega.{arith}
-use Rattle.data_packet.proofs.Returns.{all_inside, by12, by_check, finished, lead_inside}
+use lib.Seq.{length-take-le}
+use Rattle.data_packet.proofs.Returns.{ending, ends_zero, ends_unmark, lead_inside, run_ended}
+use Rattle.data_packet.proofs.run.Goals.{then-is_ok, else-is_ok}
 use Rattle.data_packet.proofs.run.Goals as goal
 
-pub trial-found-requires : goal.trial-found-requires
-trial-found-requires c =
+pub trial-found-requires-clause-good : goal.trial-found-requires-clause-good
+trial-found-requires-clause-good c =
     let a = c.args in
-    record {
-      good_le_most_items = (
-        omega (arith, c.leading-good.ensures.within),
-        c.leading-good.ensures.within,
-        lead_inside a.memory.now a.page a.items.now c.leading-good.result a.memory.now c.leading-good.ensures refl,
-      );
-      bytes_len = (c.requires.1, c.requires.2);
-    }
-
-pub take_back-requires : goal.take_back-requires
-take_back-requires c =
-    let a = c.args in (
-      c.leading-good.ensures.within,
-      lead_inside a.memory.now a.page a.items.now c.leading-good.result c.trial-found.new.memory c.leading-good.ensures c.trial-found.auto.memory,
+    let lead = c.leading-good in (
+      omega (arith, length-take-le lead.result.0 a.inputs.items.now lead.ensures.within),
+      lead_inside a.memory.now a.page a.inputs.items.now lead.result.0 a.memory.now lead.ensures refl,
     )
 
-pub returns-then-not-found : goal.returns-then-not-found
-returns-then-not-found c =
+pub settle-requires : goal.settle-requires
+settle-requires c =
     let a = c.args in
-    by12 a.memory.now a.page a.low a.items.now _ a.buffer.now c.leading-good.result _ _ _ c.leading-good.ensures
-    c.trial-found.ensures c.trial-found.auto.memory c.if-not-found.true c.take_back.ensures
-
-pub take_back-requires-then-good-items : goal.take_back-requires-then-good-items
-take_back-requires-then-good-items c =
-    let a = c.args in (
-      c.leading-good.ensures.within,
-      lead_inside a.memory.now a.page a.items.now c.leading-good.result c.trial-found.new.memory c.leading-good.ensures c.trial-found.auto.memory,
-    )
-
-pub returns-then-good-items : goal.returns-then-good-items
-returns-then-good-items c =
-    let a = c.args in
-    by_check a.memory.now a.page a.low a.items.now _ a.buffer.now c.leading-good.result _ _ _ c.leading-good.ensures
-    c.trial-found.ensures c.trial-found.auto.memory c.if-not-found.false _ c.if-good-items.true c.take_back-then-good-items.ensures c.refusal.ensures
-
-pub finish-requires : goal.finish-requires
-finish-requires c =
-    let a = c.args in (
-      c.trial-found.ensures.few,
-      c.trial-found.ensures.traced.long,
-      all_inside a.memory.now a.page a.items.now c.leading-good.result c.trial-found.new.memory c.leading-good.ensures c.trial-found.auto.memory
-          c.if-good-items.false,
-    )
+    lead_inside a.memory.now a.page a.inputs.items.now c.leading-good.result.0 c.trial-found.new.memory c.leading-good.ensures
+    c.trial-found.auto.memory
 
 pub returns : goal.returns
 returns c =
     let a = c.args in
-    finished a.memory.now a.page a.low a.items.now _ a.buffer.now c.leading-good.result _ _ _ c.leading-good.ensures
-    c.trial-found.ensures c.trial-found.auto.memory c.if-not-found.false c.if-good-items.false _
-    (λ i. omega (arith, c.slice_known-5-1.given i)) c.finish.ensures
+    let pass : c.if-is_ok.pass ≡ ending c.written-answer.result =
+    elim c.if-is_ok.branch [
+      | then-is_ok w ↦ w.pass-is ∙ ends_zero c.written-answer.result w.if-is_ok.ensures.value
+      | else-is_ok w ↦ w.pass-is ∙ ends_unmark c.written-answer.result w.if-is_ok.ensures.value
+    ] in
+    run_ended a.memory.now a.page _ _ a.buffer.now c.leading-good.result.0 c.leading-good.result.1 c.trial-found.result c.trial-found.new.memory
+    c.trial-found.new.bytes c.leading-good.ensures c.trial-found.ensures c.trial-found.auto.memory (search rules) c.apid.ensures c.written-answer.ensures pass
+    c.settle.ensures

@@ -1,14 +1,18 @@
--- `data_packet::trial::pass_window` meets its contract: inside the page a pass is not refused.
+-- `trial::pass_window` meets its contract: a window inside the page is gone over.
 -- Assumes nothing.
-use Rattle.data_packet.proofs.Items.{never_outside, passed_inside}
+use mathlib.Core.Path.{◌≡◌, ap}
+use Rattle.std.specs.Prelude.{is_ok}
+use Rattle.data_packet.proofs.Items.{passed_inside}
 use Rattle.data_packet.proofs.trial.pass_window.Goals as goal
 
-pub returns-in-Sum : goal.returns-in-Sum
-returns-in-Sum c =
+pub unwrap-requires : goal.unwrap-requires
+unwrap-requires c =
     let a = c.args in
-    passed_inside a.memory.now a.page a.pass a.window _ _ _ c.requires c.go_over-passed.ensures c.in-Sum.is
+    ap is_ok (passed_inside a.memory.now a.page a.pass a.window c.go_over.result _ c.requires c.go_over.ensures).is
 
-pub returns-in-WrongCell : goal.returns-in-WrongCell
-returns-in-WrongCell c =
+pub returns : goal.returns
+returns c =
     let a = c.args in
-    absurd (never_outside a.memory.now a.page a.pass a.window _ _ c.requires c.go_over-passed.ensures c.in-WrongCell.is)
+    let p = passed_inside a.memory.now a.page a.pass a.window c.go_over.result _ c.requires c.go_over.ensures in
+    let e : p.sum ≡ c.unwrap.result = cc in
+    rw (← e) (p.walked, p.small)
