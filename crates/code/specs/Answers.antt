@@ -80,8 +80,8 @@ abbrev pub shape_paper : Result Shape Refusal → Paper ShapeValues
 shape_paper r = mapped shape_values (on_paper not_read r)
 
 -- why no shape was read; of one that was read nothing is asked
-abbrev pub reason_of : Result Shape Refusal → Refusal
-reason_of (Ok s) = OutsideRule
+abbrev pub reason_of : {V : Type 0} → Result V Refusal → Refusal
+reason_of (Ok x) = OutsideRule
 reason_of (Err why) = why
 
 -- a number that was read, in document 01's words

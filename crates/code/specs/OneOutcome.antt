@@ -38,7 +38,7 @@ pub refusal_number_one : (why : Refusal) {m n : ℕ} → m ≡ refusal_number wh
 refusal_number_one why p q = one_value p q
 
 -- one reason for an answer
-pub reason_one : (a : Result Shape Refusal) {x y : Refusal} → x ≡ reason_of a → y ≡ reason_of a → x ≡ y
+pub reason_one : {V : Type 0} (a : Result V Refusal) {x y : Refusal} → x ≡ reason_of a → y ≡ reason_of a → x ≡ y
 reason_one a p q = one_value p q
 
 -- one magnitude for a number

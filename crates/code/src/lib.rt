@@ -3,7 +3,7 @@
 
 ghost use Rattle.std.specs.Prelude.{◌≡◌, ◌&&◌, leb, nat_abs, length};
 ghost use Rattle.code.specs.Meaning.{bits_that_count, drop_known, largest};
-ghost use Rattle.code.specs.Answers.{not_packed, not_read};
+ghost use Rattle.code.specs.Answers.{not_packed, not_read, reason_of};
 ghost use Rattle.code.specs.Promise.{SignPromise, PowerPromise, BitPromise};
 
 use ground::Numbered;
@@ -72,6 +72,17 @@ pub struct Shape {
 pub struct Unpacked {
     pub value: i32,
     pub next: u64,
+}
+
+// Why nothing was read; of what was read nothing is asked. It stays beside `?`: document 01 names `let .. else` as the form in which
+// a rate takes the reader's answer apart, and the refusal is handed on.
+pub fn reason<T: Copy>(answer: Result<T, Refusal>) -> Refusal
+    ensures { result ≡ reason_of answer }
+{
+    match answer {
+        Ok(_) => Refusal::OutsideRule,
+        Err(why) => why,
+    }
 }
 
 // The magnitude of a number, at every i32.

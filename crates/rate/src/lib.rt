@@ -66,7 +66,10 @@ impl From<OutOfRange> for NotFormed {
 pub fn reading(bytes: &[u8], at: u64, drop: u8) -> Result<Counts, Refusal>
     ensures { ReadingPromise bytes.now at drop result }
 {
-    let read = unpack::shape(bytes, at, drop)?;
+    let answer = unpack::shape(bytes, at, drop);
+    let Ok(read) = answer else {
+        return Err(code::reason(answer));
+    };
     if read.sign == 1 {
         return Err(Refusal::OutsideRule);
     }
@@ -80,7 +83,10 @@ pub fn reading(bytes: &[u8], at: u64, drop: u8) -> Result<Counts, Refusal>
 pub fn rate(bytes: &[u8], at: u64, drop: u8, level: u8) -> Result<Formed, NotFormed>
     ensures { RatePromise bytes.now at drop level result }
 {
-    let counts = reading(bytes, at, drop)?;
+    let answer = reading(bytes, at, drop);
+    let Ok(counts) = answer else {
+        return Err(NotFormed::from(code::reason(answer)));
+    };
     let seconds = cadence::level_seconds(level)?;
     Ok(Formed {
         rate: band::divided(counts.reading, seconds),

@@ -6,5 +6,5 @@ use Rattle.rate.proofs.rate.Goals as goal
 pub returns : goal.returns
 returns c =
     record {
-      answer = forms _ _ _ _ c.in_ok-counts.counts c.in_ok-counts.ensures c.in_ok-seconds.seconds _ c.in_ok-seconds.ensures.answer c.divided.ensures;
+      answer = forms _ _ _ _ c.in-Ok.counts c.in-Ok.ensures c.in_ok-seconds.seconds _ c.in_ok-seconds.ensures.answer c.divided.ensures;
     }
