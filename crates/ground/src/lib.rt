@@ -26,6 +26,7 @@ pub fn number_of<T: Copy, E: Numbered + Copy>(answer: Result<T, E>) -> u8
 }
 
 // Whether so many bytes from a place on lie in the bytes.
+// Stays: place and size are what is asked about, not the bounds of a buffer (`LiesPromise`).
 pub fn lies_in(bytes: &[u8], at: usize, size: usize) -> bool
     ensures { LiesPromise bytes.now at size result }
 {

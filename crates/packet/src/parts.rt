@@ -38,16 +38,10 @@ fn marked_at(capture: &[u8], place: usize) -> bool
     requires { place + 4 ≤ length capture.now }
     ensures { result ≡ marked capture.now place }
 {
-    if capture[place] != 0xBE {
-        return false;
-    }
-    if capture[place + 1] != 0xBA {
-        return false;
-    }
-    if capture[place + 2] != 0xCA {
-        return false;
-    }
-    capture[place + 3] == 0xFE
+    capture[place] == 0xBE
+        && capture[place + 1] == 0xBA
+        && capture[place + 2] == 0xCA
+        && capture[place + 3] == 0xFE
 }
 
 // Puts a packet's header at the front: the mark, the length word and the APID.
