@@ -102,27 +102,18 @@ pub const MARK: u32 = 2147483648;
 pub fn sized(words: usize) -> bool
     ensures { SizedPromise words result }
 {
-    if words % 2 != 0 {
-        return false;
-    }
-    if words < 2 {
-        return false;
-    }
-    words <= 524288
+    words.is_multiple_of(2) && (2..=524288).contains(&words)
 }
 
 // Sets every word to 0.
 pub fn clear(memory: &mut [u32])
     ensures { ClearPromise memory.old memory.new }
 {
-    let mut i = 0;
-    while i < memory.len() {
-        memory[i] = 0;
-        i += 1;
-    }
+    memory.fill(0);
 }
 
 // Adds 1 to the word at an address of a page.
+#[tactic(auto, unfolding(crate::specs::Meaning::count_means))]
 pub fn count(memory: &mut [u32], second: bool, address: u32) -> Result<(), NotCounted>
     ensures { CountPromise memory.old second address result memory.new }
 {
@@ -143,14 +134,21 @@ pub fn count(memory: &mut [u32], second: bool, address: u32) -> Result<(), NotCo
 }
 
 // Sums the cells of a window of a page in order, each set to 0 at once where the window clears.
+#[tactic(auto, using(crate::specs::Passes::window_walk_lem), unfolding(crate::specs::Meaning::take_means))]
 pub fn take(memory: &mut [u32], second: bool, window: Window) -> Result<u64, NotTaken>
     ensures { TakePromise memory.old second window result memory.new }
 {
     check(memory, second, window)?;
-    Ok(walk_window(memory, second, false, window.clear, false, window))
+    let flags = Flags {
+        trial: false,
+        clear: window.clear,
+        settle: false,
+    };
+    Ok(walk_window(memory, second, flags, window))
 }
 
 // Whether a window of a page may be taken: its last cell inside the page, and none of its words above full.
+#[tactic(auto, unfolding(crate::specs::Meaning::check_means))]
 pub fn check(memory: &[u32], second: bool, window: Window) -> Result<(), NotTaken>
     ensures { CheckPromise memory.now second window result }
 {
@@ -164,6 +162,7 @@ pub fn check(memory: &[u32], second: bool, window: Window) -> Result<(), NotTake
 }
 
 // Goes over the cells of a window of a page in order, does to each what the pass says, and answers the sum of what was seen.
+#[tactic(auto, unfolding(crate::specs::Passes::pass_means))]
 pub fn go_over(
     memory: &mut [u32],
     second: bool,
@@ -176,13 +175,5 @@ pub fn go_over(
     if words / 2 <= last_cell(window) {
         return Err(WrongCell);
     }
-    let flags = flags_of(rule);
-    Ok(walk_window(
-        memory,
-        second,
-        flags.trial,
-        flags.clear,
-        flags.settle,
-        window,
-    ))
+    Ok(walk_window(memory, second, flags_of(rule), window))
 }

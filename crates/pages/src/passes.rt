@@ -1,5 +1,5 @@
 // A pass as three flags, and what they see of a word and leave of it.
-ghost use Rattle.std.specs.Prelude.{◌≡◌, ◌<◌};
+ghost use Rattle.std.specs.Prelude.{◌≡◌, true};
 ghost use Rattle.ground.specs.Choice.{pick};
 ghost use Rattle.pages.specs.Flags.{flags_of, left_by};
 ghost use Rattle.pages.specs.Passes.{seen};
@@ -44,26 +44,45 @@ pub(crate) fn flags_of(rule: Pass) -> Flags
     }
 }
 
-// What is left of a word.
-pub(crate) fn left(trial: bool, clear: bool, settle: bool, word: u32) -> u32
-    ensures { result ≡ left_by trial clear settle word }
+// What a pass leaves of a word.
+pub(crate) fn left(flags: Flags, word: u32) -> u32
+    ensures { result ≡ left_by flags.trial flags.clear flags.settle word }
 {
-    let taken = either(clear, 0, word);
-    let tried = either(clear, word % MARK + MARK, word);
-    let settled = either(clear, unless_marked(word), word % MARK);
-    either(trial, either(settle, settled, tried), taken)
+    if flags.trial {
+        tried(flags, word)
+    } else if flags.clear {
+        0
+    } else {
+        word
+    }
+}
+
+// What a pass on trial leaves of a word: marked, settled, or as it was.
+fn tried(flags: Flags, word: u32) -> u32
+    ensures { result ≡ left_by true flags.clear flags.settle word }
+{
+    match (flags.settle, flags.clear) {
+        (true, true) => unless_marked(word),
+        (true, false) => word % MARK,
+        (false, true) => word % MARK + MARK,
+        (false, false) => word,
+    }
+}
+
+// What a pass sees of a word: on trial nothing of a marked one.
+pub(crate) fn value(flags: Flags, word: u32) -> u32
+    ensures { result ≡ pick flags.trial (seen word) word }
+{
+    if flags.trial {
+        unless_marked(word)
+    } else {
+        word
+    }
 }
 
 // A word, or 0 where it is marked.
-pub(crate) fn unless_marked(word: u32) -> u32
-    ensures { (result ≡ seen word) × (result < 4294967296) }
+fn unless_marked(word: u32) -> u32
+    ensures { result ≡ seen word }
 {
-    either(word < MARK, word, 0)
-}
-
-// The first word where a test holds, else the second.
-pub(crate) fn either(test: bool, first: u32, second: u32) -> u32
-    ensures { (result ≡ pick test first second) × (result < 4294967296) }
-{
-    if test { first } else { second }
+    if word < MARK { word } else { 0 }
 }

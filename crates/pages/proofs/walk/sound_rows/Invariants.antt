@@ -1,13 +1,8 @@
 -- `pages::walk::sound_rows` meets its contract. The loop's invariant: the flag says whether the rows passed are sound.
 -- Assumes nothing.
 use mathlib.Core.Path.{◌≡◌}
-use Prim.Native.Nat.{◌≤◌, ◌-◌}
 use Rattle.pages.specs.Meaning.{rows_in, sound_of}
 use Rattle.pages.proofs.walk.sound_rows.Given as goal
 
 abbrev pub invariant-loop-row : goal.invariant-loop-row
-invariant-loop-row l =
-    (l.row ≤ l.height) × (l.ok ≡ sound_of l.memory l.page (rows_in l.window l.row))
-
-abbrev pub decreases-loop-row : goal.decreases-loop-row
-decreases-loop-row l = l.height - l.row
+invariant-loop-row l = l.ok ≡ sound_of l.memory l.page (rows_in l.window l.row)
