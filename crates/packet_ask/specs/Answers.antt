@@ -1,58 +1,61 @@
--- The paper of each answer: the documents' number and values for each case, and the way back.
+-- A packet ask's answer as the documents have it, and its refusals' numbers.
 -- Assumes nothing.
-use Rattle.std.specs.Prelude.{◌≡◌, refl, ℕ, eqb}
+use Rattle.std.specs.Prelude.{◌≡◌, refl, [], ℕ, ◌||◌, eqb, Option, Some, None, Result}
 use Rattle.ground.specs.Choice.{pick}
-use Rattle.ground.specs.Paper.{Paper, accepted, refusal, refused}
+use Rattle.ground.specs.Paper.{Paper, accepted, mapped, refused}
+use Rattle.ground.specs.Refusals.{Refusals, on_paper}
+use Rattle.state.specs.Answers.{no_turn, wrong_memory}
+use Rattle.state.specs.declared.NoTurn.TheVariants as turning
+use Rattle.data_packet.specs.Answers.{not_built, packet_back, packet_values}
+use Rattle.data_packet.specs.declared.NotBuilt.TheVariants as building
 use Rattle.packet_ask.specs.Meaning.{PacketValue, new_packet, packet_again}
-use Rattle.packet_ask.specs.declared.PacketAnswer.{PacketAnswer}
-use Rattle.packet_ask.specs.declared.Rewritten.{Rewritten}
+use Rattle.packet_ask.specs.declared.Answered.{Answered}
+use Rattle.packet_ask.specs.declared.NotAsked.{NotAsked}
+use Rattle.packet_ask.specs.declared.NotAsked.TheVariants.{Memory, Turn, Packet}
+
+-- a packet ask that is refused: 13, 17 or 18, or building's 3, 12, 14, 16, 19, 22, 23
+abbrev pub not_asked : Refusals NotAsked
+not_asked =
+    record {
+      number = elim [ Memory why ↦ wrong_memory.number why | Turn why ↦ no_turn.number why | Packet why ↦ not_built.number why ];
+      carried = λ why. [];
+      back = λ n carried.
+          pick (eqb n 13) (Memory (record {}))
+          (pick (eqb n 17 || eqb n 18) (Turn (no_turn.back n carried)) (Packet (not_built.back n carried)));
+      home = elim [
+        | Memory why ↦ refl
+        | Turn turning.OtherAsk ↦ refl
+        | Turn turning.OutOfTurn ↦ refl
+        | Packet building.BufferTooShort ↦ refl
+        | Packet building.TooLarge ↦ refl
+        | Packet building.WrongCell ↦ refl
+        | Packet building.AboveFull ↦ refl
+        | Packet building.OutOfRange ↦ refl
+        | Packet building.ForbiddenItem ↦ refl
+        | Packet building.TooManyItems ↦ refl
+      ];
+    }
 
 -- the kept bytes handed out again: how many, or 3
-abbrev pub rewritten_paper : Rewritten → Paper ℕ
-rewritten_paper (Rewritten.Bytes count) = accepted count
-rewritten_paper Rewritten.TooShort = refused 3
+abbrev pub rewritten_paper : Option ℕ → Paper ℕ
+rewritten_paper (Some count) = accepted count
+rewritten_paper None = refused 3
 
--- a packet ask: the bytes written and the total, new or again, or 3, 12, 13, 14, 16, 17, 18, 19, 22, 23
-abbrev pub packet_paper : PacketAnswer → Paper PacketValue
-packet_paper (PacketAnswer.New written total) = accepted (new_packet (record { written = written; total = total }))
-packet_paper (PacketAnswer.Again written total) = accepted (packet_again (record { written = written; total = total }))
-packet_paper PacketAnswer.BufferTooShort = refused 3
-packet_paper PacketAnswer.TooLarge = refused 12
-packet_paper PacketAnswer.WrongMemory = refused 13
-packet_paper PacketAnswer.WrongCell = refused 14
-packet_paper PacketAnswer.AboveFull = refused 16
-packet_paper PacketAnswer.OutOfTurn = refused 17
-packet_paper PacketAnswer.OtherAsk = refused 18
-packet_paper PacketAnswer.OutOfRange = refused 19
-packet_paper PacketAnswer.ForbiddenItem = refused 22
-packet_paper PacketAnswer.TooManyItems = refused 23
+-- an accepted packet ask in the documents' words: its packet, new or again
+abbrev pub value_of : Answered → PacketValue
+value_of (Answered.New packet) = new_packet (packet_values packet)
+value_of (Answered.Again packet) = packet_again (packet_values packet)
 
--- the way back from its paper
-abbrev pub packet_back : Paper PacketValue → PacketAnswer
-packet_back (accepted (new_packet v)) = PacketAnswer.New v.written v.total
-packet_back (accepted (packet_again v)) = PacketAnswer.Again v.written v.total
-packet_back (refusal n carried) =
-    pick (eqb n 3) PacketAnswer.BufferTooShort
-    (pick (eqb n 12) PacketAnswer.TooLarge
-    (pick (eqb n 13) PacketAnswer.WrongMemory
-    (pick (eqb n 14) PacketAnswer.WrongCell
-    (pick (eqb n 16) PacketAnswer.AboveFull
-    (pick (eqb n 17) PacketAnswer.OutOfTurn
-    (pick (eqb n 18) PacketAnswer.OtherAsk
-    (pick (eqb n 19) PacketAnswer.OutOfRange
-    (pick (eqb n 22) PacketAnswer.ForbiddenItem PacketAnswer.TooManyItems))))))))
+-- the answer that reads so
+abbrev pub value_back : PacketValue → Answered
+value_back (new_packet v) = Answered.New (packet_back v)
+value_back (packet_again v) = Answered.Again (packet_back v)
 
--- there and back is where it began
-pub packet_home : (a : PacketAnswer) → packet_back (packet_paper a) ≡ a
-packet_home (PacketAnswer.New written total) = refl
-packet_home (PacketAnswer.Again written total) = refl
-packet_home PacketAnswer.BufferTooShort = refl
-packet_home PacketAnswer.TooLarge = refl
-packet_home PacketAnswer.WrongMemory = refl
-packet_home PacketAnswer.WrongCell = refl
-packet_home PacketAnswer.AboveFull = refl
-packet_home PacketAnswer.OutOfTurn = refl
-packet_home PacketAnswer.OtherAsk = refl
-packet_home PacketAnswer.OutOfRange = refl
-packet_home PacketAnswer.ForbiddenItem = refl
-packet_home PacketAnswer.TooManyItems = refl
+-- an answer is the one that reads as it does
+pub value_home : (a : Answered) → value_back (value_of a) ≡ a
+value_home (Answered.New packet) = refl
+value_home (Answered.Again packet) = refl
+
+-- a packet ask: its packet, new or again, or 3, 12, 13, 14, 16, 17, 18, 19, 22, 23
+abbrev pub packet_paper : Result Answered NotAsked → Paper PacketValue
+packet_paper r = mapped value_of (on_paper not_asked r)

@@ -1,15 +1,17 @@
 -- The numbered ask for a packet, in document 02's words and order (2026-07): built once for each number, and the kept bytes handed out again.
 -- Assumes nothing.
-use Rattle.std.specs.Prelude.{not, List, ℕ, leb, length, take}
+use Rattle.std.specs.Prelude.{not, List, ℕ, leb, length, take, Result, Ok, Err}
 use Rattle.ground.specs.Choice.{pick}
 use Rattle.ground.specs.Outcome.{Outcome, accept, onward_to, refuse}
 use Rattle.ground.specs.Paper.{Paper, accepted, refusal}
 use Rattle.ground.specs.Putting.{put}
 use Rattle.item.specs.Inputs.{Inputs}
+use Rattle.state.specs.Answers.{no_turn}
 use Rattle.state.specs.Turns.{turn_of}
 use Rattle.state.specs.Words.{packet, bytes_in, keep_packet_in, kept_in, page_in}
+use Rattle.state.specs.declared.NoTurn.{NoTurn}
 use Rattle.state.specs.declared.Turn.{Turn}
-use Rattle.state.specs.declared.Turn.TheVariants.{NewAsk, LastAsk, OtherAsk, OutOfTurn}
+use Rattle.state.specs.declared.Turn.TheVariants.{NewAsk, LastAsk}
 use Rattle.histogram.specs.Meaning.{admission}
 use Rattle.data_packet.specs.Meaning.{MemoryAndBuffer, PacketValues, build_means}
 
@@ -59,11 +61,10 @@ handing memory state total o =
     o.answer
 
 -- "A repeat with all of them the same answers "again" with the same total .. and changes neither histogram memory nor state"; refusals 18 or 17
-abbrev pub packet_turn_means : Turn → List ℕ → List ℕ → List ℕ → ℕ → Inputs → PacketOutcome
-packet_turn_means NewAsk memory state buffer number i = new_packet_means memory state buffer number i
-packet_turn_means (LastAsk total) memory state buffer number i = handing memory state total (again_means state buffer)
-packet_turn_means OtherAsk memory state buffer number i = refuse 18 (packet_lent memory state buffer)
-packet_turn_means OutOfTurn memory state buffer number i = refuse 17 (packet_lent memory state buffer)
+abbrev pub packet_turn_means : Result Turn NoTurn → List ℕ → List ℕ → List ℕ → ℕ → Inputs → PacketOutcome
+packet_turn_means (Ok NewAsk) memory state buffer number i = new_packet_means memory state buffer number i
+packet_turn_means (Ok (LastAsk total)) memory state buffer number i = handing memory state total (again_means state buffer)
+packet_turn_means (Err why) memory state buffer number i = refuse (no_turn.number why) (packet_lent memory state buffer)
 
 -- a packet ask: "Order 13, 18 or 17, 23, 22, 19, then per item 14, 16, 12 (sent items only), then 3; a repeat meets only 13 and 3"
 unfoldable pub packet_means : List ℕ → List ℕ → List ℕ → ℕ → Inputs → PacketOutcome

@@ -1,6 +1,6 @@
 -- What a packet ask may answer and leave: to show something of every outcome, show it of a refusal by any number but 0, a new packet and a repeat.
 -- Assumes nothing.
-use Rattle.std.specs.Prelude.{not, List, ◌++◌, ◌≡◌, leb, length, drop}
+use Rattle.std.specs.Prelude.{not, List, ◌++◌, ◌≡◌, leb, length, drop, Result, Ok, Err}
 use Rattle.std.proofs.Math.Path.{refl}
 use Rattle.std.proofs.Common.{sym, subst, arith, take_at, leb-true}
 use Prim.Native.Nat.{ℕ, ◌+◌, ◌≤◌, ◌<◌}
@@ -17,7 +17,9 @@ use Rattle.packet.specs.Meaning.{packet_of}
 use Rattle.packet.specs.ReadBack.{packet_length}
 use Rattle.state.specs.Turns.{turn_of}
 use Rattle.state.specs.Words.{Asked, bytes_in, keep_packet_in, kept_in, page_in}
-use Rattle.state.specs.declared.Turn.TheVariants.{NewAsk, LastAsk, OtherAsk, OutOfTurn}
+use Rattle.state.specs.declared.NoTurn.{NoTurn}
+use Rattle.state.specs.declared.NoTurn.TheVariants.{OtherAsk, OutOfTurn}
+use Rattle.state.specs.declared.Turn.TheVariants.{NewAsk, LastAsk}
 use Rattle.state.specs.declared.Turn.{Turn}
 use Rattle.packet_ask.specs.Meaning.{PacketOutcome, building, handing, new_packet, new_packet_means, packet_again, packet_lent}
 use Rattle.packet_ask.specs.Meaning.{packet_means, packet_turn_means}
@@ -50,25 +52,25 @@ module _ (m w buffer : List ℕ) (number : ℕ) (i : Inputs) (P : PacketOutcome 
 
   -- a packet ask of any turn
   turn_elim : ((r : Run) → length i.items ≤ most_items → run_items (not (page_in w)) (first_run m) i.items ≡ accepted r
-      → turn_of (kept_in w) number (Asked.packet i) ≡ NewAsk → length (data_of i r.bits) + 10 ≤ length buffer → P (built_packet w buffer number i r))
-      → ((total : ℕ) → turn_of (kept_in w) number (Asked.packet i) ≡ LastAsk total → length (bytes_in w) ≤ length buffer → P (same_packet m w buffer total))
-      → (t : Turn) → turn_of (kept_in w) number (Asked.packet i) ≡ t → P (packet_turn_means t m w buffer number i)
+      → turn_of (kept_in w) number (Asked.packet i) ≡ Ok NewAsk → length (data_of i r.bits) + 10 ≤ length buffer → P (built_packet w buffer number i r))
+      → ((total : ℕ) → turn_of (kept_in w) number (Asked.packet i) ≡ Ok (LastAsk total) → length (bytes_in w) ≤ length buffer → P (same_packet m w buffer total))
+      → (t : Result Turn NoTurn) → turn_of (kept_in w) number (Asked.packet i) ≡ t → P (packet_turn_means t m w buffer number i)
   unfolding new_packet_means
-  turn_elim built repeated NewAsk e =
+  turn_elim built repeated (Ok NewAsk) e =
       build_elim m (not (page_in w)) i buffer (λ (o : Outcome PacketValues MemoryAndBuffer). P (building w number i o))
       (λ r h f k. kept_is r (built r h f e k))
       refuses
-  turn_elim built repeated (LastAsk total) e =
+  turn_elim built repeated (Ok (LastAsk total)) e =
       pick_elim (λ (o : Outcome ℕ (List ℕ)). P (handing m w total o)) (leb (length (bytes_in w)) (length buffer)) _ _
       (λ h. repeated total e (leb-true _ _ h))
       (λ h. refuses 3 (omega arith))
-  turn_elim built repeated OtherAsk e = refuses 18 (omega arith)
-  turn_elim built repeated OutOfTurn e = refuses 17 (omega arith)
+  turn_elim built repeated (Err OtherAsk) e = refuses 18 (omega arith)
+  turn_elim built repeated (Err OutOfTurn) e = refuses 17 (omega arith)
 
   -- every packet ask: a refusal, a new packet, a repeat
   pub packet_elim : (Admits m w → (r : Run) → length i.items ≤ most_items → run_items (not (page_in w)) (first_run m) i.items ≡ accepted r
-      → turn_of (kept_in w) number (Asked.packet i) ≡ NewAsk → length (data_of i r.bits) + 10 ≤ length buffer → P (built_packet w buffer number i r))
-      → (Admits m w → (total : ℕ) → turn_of (kept_in w) number (Asked.packet i) ≡ LastAsk total → length (bytes_in w) ≤ length buffer
+      → turn_of (kept_in w) number (Asked.packet i) ≡ Ok NewAsk → length (data_of i r.bits) + 10 ≤ length buffer → P (built_packet w buffer number i r))
+      → (Admits m w → (total : ℕ) → turn_of (kept_in w) number (Asked.packet i) ≡ Ok (LastAsk total) → length (bytes_in w) ≤ length buffer
       → P (same_packet m w buffer total))
       → P (packet_means m w buffer number i)
   unfolding packet_means

@@ -1,14 +1,18 @@
--- `new_packet` meets its contract: what was built on the idle page, kept and answered.
+-- `new_packet` meets its contract: a packet that was built can be kept.
 -- Assumes nothing.
-use borrow.Author.Rules.{rules}
-use Rattle.packet_ask.proofs.Asking.{builds, keepable}
+use mathlib.Core.Path.{sym}
+use native.Mathlib.Omega.{arith}
+use lib.Seq.{length-take-le}
+use Rattle.packet_ask.proofs.Asking.{keepable}
 use Rattle.packet_ask.proofs.new_packet.Goals as goal
 
-pub keep_built-requires : goal.keep_built-requires
-keep_built-requires c =
-    (search rules, keepable _ _ _ _ _ _ _ c.build-built.ensures)
+pub slice_bounds-bytes-end : goal.slice_bounds-bytes-end
+slice_bounds-bytes-end c = (keepable _ _ _ _ _ _ _ c.in_ok-packet.ensures).1
 
-pub returns : goal.returns
-returns c =
-    builds _ _ _ _ _ c.idle_page-idle.ensures c.build-built.result c.build-built.ensures c.keep_built.ensures
-    c.built_answer.result c.built_answer.ensures
+pub slice_bounds-bytes-end-2 : goal.slice_bounds-bytes-end-2
+slice_bounds-bytes-end-2 c = sym (length-take-le _ _ (keepable _ _ _ _ _ _ _ c.in_ok-packet.ensures).1)
+
+pub keep_packet-requires : goal.keep_packet-requires
+keep_packet-requires c =
+    let can = keepable _ _ _ _ _ _ _ c.in_ok-packet.ensures in
+    (c.requires, can.0, omega (arith, can.2, length-take-le c.in_ok-packet.packet.written c.build.new.buffer can.1))
