@@ -156,8 +156,8 @@ packs_as_before buffer at v d e =
 -- ---- of the calls
 
 -- what `unpack` answers of a code that was accepted before
-pub unpack_as_before : {bytes : List ℕ} {at d : ℕ} {t : UnpackValues} {r : Result Unpacked Refusal} → UnpackPromise bytes at d r → old_unpack_means bytes at d ≡ accepted t
-    → unpacked_paper r ≡ accepted t
+pub unpack_as_before : {bytes : List ℕ} {at d : ℕ} {t : UnpackValues} {r : Result Unpacked Refusal} → UnpackPromise bytes at d r
+    → old_unpack_means bytes at d ≡ accepted t → unpacked_paper r ≡ accepted t
 unpack_as_before {bytes} {at} {d} p e = p.answer ∙ decodes_as_before bytes at d e
 
 -- what `pack` leaves of a number that was packed before

@@ -89,52 +89,42 @@ pub fn reason<T: Copy>(answer: Result<T, Refusal>) -> Refusal
 pub fn magnitude(v: i32) -> u32
     ensures { result ≡ nat_abs v }
 {
-    let w = v as i64;
-    if w < 0 { (0 - w) as u32 } else { w as u32 }
+    v.unsigned_abs()
 }
 
 // The sign bit of a number.
 pub fn sign(v: i32) -> u32
     ensures { SignPromise v result }
 {
-    if v < 0 { 1 } else { 0 }
+    u32::from(v < 0)
 }
 
 // Whether a drop is known: only 0 and 3 are.
 pub fn drop_known(drop: u8) -> bool
     ensures { result ≡ drop_known drop }
 {
-    if drop == 0 { true } else { drop == 3 }
+    drop == 0 || drop == 3
 }
 
 // A magnitude and a drop inside the rule.
 pub fn in_rule(m: u32, drop: u8) -> bool
     ensures { result ≡ (drop_known drop && leb m largest) }
 {
-    if drop_known(drop) {
-        m <= LARGEST
-    } else {
-        false
-    }
+    drop_known(drop) && m <= LARGEST
 }
 
 // A drop as the number that widths are made of.
 pub fn wide(drop: u8) -> u32
     ensures { result ≡ drop }
 {
-    drop as u32
+    u32::from(drop)
 }
 
 // How many bits count: eight a byte, and none from position 2^63 on.
 pub fn end_of(bytes: &[u8]) -> u64
     ensures { result ≡ length (bits_that_count bytes.now) }
 {
-    let n = bytes.len() as u64;
-    if n < 1152921504606846976 {
-        n * 8
-    } else {
-        9223372036854775808
-    }
+    (bytes.len() as u64).min(1 << 60) * 8
 }
 
 // A power of two; 0 where 32 bits do not hold it.
