@@ -1,39 +1,34 @@
 -- Laws that the proofs of writing cite: a code's bits as a number, and bits put into bytes.
 -- Assumes nothing.
 use mathlib.Core.Path.{◌≡◌, refl, sym, ap, ap₂, ◌∙◌, subst}
-use mathlib.Core.Bool.{Bool, true, false, ◌&&◌}
+use mathlib.Core.Bool.{Bool, true, false}
 use mathlib.Core.List.{List, [], ◌∷◌, ◌++◌, append_assoc}
 use Prim.Native.Nat.{ℕ, zero, suc, ◌+◌, ◌*◌, ◌-◌, ◌/◌, ◌%◌, ◌^◌, ◌<◌, ◌≤◌}
 use native.Mathlib.Nat.{mod-eq_of_lt, mod-lt, suc-add, zero-add}
 use native.Mathlib.Omega.{arith}
-use lib.IntN.{ℤ, nat_abs}
 use lib.Count.{count_leading_zeros, leading_top}
-use lib.ListN.{length, length-append, take, drop, get_or, set, replicate, take-append-drop}
+use lib.ListN.{length, length-append, take, drop, get_or, set, replicate}
 use lib.Seq.{take_at, drop_at, length-take-le, take-append-le}
 use lib.Pow.{pow_pos, pow_mono, split, ones_lt, shr-shr}
-use lib.Dec.{ltb, leb}
-use borrow.Author.Tests.{lt-ltb, le-ltb, le-leb, lt-leb, ltb-true, ltb-false, eq-eqb, ne_eqb}
+use lib.Dec.{ltb}
+use borrow.Author.Tests.{lt-ltb, le-ltb, le-leb, ltb-true, ltb-false}
 use mir.Syntax.{w64}
 use mir.Val.{Fits}
 use Rattle.ground.specs.Choice.{pick}
 use Rattle.ground.specs.Outcome.{accept, refuse}
 use Rattle.ground.specs.Bits.{to_bits, bits_of}
 use Rattle.ground.specs.Putting.{put, put_next}
-use Rattle.code.specs.Meaning.{nought, small, bits, coded, shape_of, led_of, leading, left_out, width, ones_of, with_parity, least_coded, sign_of, to_byte_end}
+use Rattle.code.specs.Meaning.{nought, small, bits, coded, shape_of, led_of, leading, left_out, width, least_coded, to_byte_end}
 use Rattle.code.specs.Meaning.{bits_that_count, largest, greatest_place}
-use Rattle.code.specs.Meaning.{padded, bytes_from, bytes_with, code_of, fits_at, place_means, in_rule, drop_known}
-use Rattle.code.specs.BitLists.{length-to_bits, length-bits_of, to_bits_low, to_bits_join, to_bits_ones, to_bits-zeros}
+use Rattle.code.specs.Meaning.{padded, bytes_from, bytes_with, fits_at, place_means}
+use Rattle.code.specs.BitLists.{length-to_bits, length-bits_of, to_bits_low, to_bits_join, to_bits_ones}
 use Rattle.ground.specs.Bytes.{Bytes}
 use Rattle.code.specs.Positions.{length-bits_that_count, bytes_back}
 use Rattle.code.specs.Magnitudes.{leading_is, exponent_lt, high_lt, field_lt}
-use Rattle.code.specs.Shapes.{Drop, drop_small, below_led}
+use Rattle.code.specs.Shapes.{Drop, below_led}
 use Rattle.code.specs.Numbers.{shift_is}
-use Rattle.pack.specs.Steps.{Holds, byte_bits, PlacePromise}
-use Rattle.pack.specs.Promise.{FieldPromise}
-use Rattle.code.specs.Promise.{PackPromise}
-use Rattle.std.specs.Prelude.{Result, Ok, Err}
-use Rattle.code.specs.declared.NotPacked.{NotPacked}
-use Rattle.code.specs.declared.NotPacked.TheVariants.{OutsideRule, TooShort}
+use Rattle.pack.specs.Steps.{byte_bits, PlacePromise}
+use Rattle.std.specs.Prelude.{Ok}
 
 -- ---- a code's bits as a number
 
@@ -75,50 +70,39 @@ join_fits number count more width a b h =
     let o = join_is number count more width a b h in
     record { fits = omega (arith, o.1, pow_mono {i = count + width} {j = 40} h) }
 
--- a field with a zero before it
-zero_before : (w x : ℕ) → x < 2 ^ w → to_bits (1 + w) x ≡ 0 ∷ to_bits w x
-zero_before w x h =
-    ap (λ (n : ℕ). to_bits (1 + w) n) (sym (zero-add x) ∙ ap (λ (n : ℕ). n + x) (sym (native.Mathlib.Nat.zero-mul (2 ^ w))))
-    ∙ to_bits_join 1 w 0 x h
+-- the last bits of a number are those of its rest
+to_bits-rest : (w x : ℕ) → to_bits w (x % 2 ^ w) ≡ to_bits w x
+to_bits-rest w x = sym (to_bits_low w (x / 2 ^ w) (x % 2 ^ w)) ∙ ap (to_bits w) (split x w)
 
--- a field with a bit before it
-bit_before : (w p x : ℕ) → p < 2 → x < 2 ^ w → to_bits (1 + w) (p * 2 ^ w + x) ≡ p ∷ to_bits w x
-bit_before w p x hp h =
-    to_bits_join 1 w p x h
-    ∙ ap (λ (n : ℕ). n ∷ to_bits w x) (ap (λ (n : ℕ). n % 2) (native.Mathlib.Nat.div-one p) ∙ mod-eq_of_lt hp)
+-- so many ones
+pub ones_held : (count : ℕ) {l : List ℕ} → count ≤ 30 → l ≡ to_bits count (1 * 2 ^ count % 2 ^ 64 - 1) → l ≡ replicate count 1
+ones_held count h e = e ∙ ap (to_bits count) (ones_are count h).0 ∙ to_bits_ones count
 
--- a one and a sign
-one_and_sign : (s : ℕ) → s < 2 → to_bits 2 (2 + s) ≡ 1 ∷ s ∷ []
-one_and_sign zero h = refl
-one_and_sign (suc zero) h = refl
-one_and_sign (suc (suc s)) h = absurd (omega arith)
+-- the last bits of a number
+pub last_is : (number count : ℕ) {l : List ℕ} → count ≤ 40 → l ≡ to_bits count (number % (1 * 2 ^ count % 2 ^ 64)) → l ≡ to_bits count number
+last_is number count h e = e ∙ ap (λ (n : ℕ). to_bits count (number % n)) (shift_is count 64 (omega arith)) ∙ to_bits-rest count number
 
--- a field is narrower than itself with a bit before it
-pub narrower : (w x : ℕ) → x < 2 ^ w → x < 2 ^ (1 + w)
-narrower w x h = omega (arith, pow_mono {i = w} {j = 1 + w} (omega arith))
+-- as many bits are held as were counted
+pub held_length : (count number : ℕ) {l : List ℕ} → to_bits count number ≡ l → count ≡ length l
+held_length count number e = sym (length-to_bits count number) ∙ ap length e
 
--- the head, the run of ones, the zero and the field, side by side
-pub coded_holds : (s ones after w head number : ℕ) → s < 2 → after < 2 ^ w → ones + w ≤ 30
-    → head ≡ (2 + s) * 2 ^ ones + (2 ^ ones - 1)
-    → number ≡ head * 2 ^ (1 + w) + after → number < 2 ^ (2 + ones + (1 + w))
-    → Holds number (2 + ones + (1 + w)) (coded s ones (to_bits w after))
-coded_holds s ones after w head number hs hw few p q fits =
-    record {
-      bits_are =
-          ap (to_bits (2 + ones + (1 + w))) q
-          ∙ to_bits_join (2 + ones) (1 + w) head after (narrower w after hw)
-          ∙ ap₂ (λ (k l : List ℕ). k ++ l)
-          (ap (to_bits (2 + ones)) p
-          ∙ to_bits_join 2 ones (2 + s) (2 ^ ones - 1) (ones_lt ones)
-          ∙ ap₂ (λ (k l : List ℕ). k ++ l) (one_and_sign s hs) (to_bits_ones ones))
-          (zero_before w after hw);
-      number_fits = fits;
-      few = omega arith;
-    }
+module _ (number count more width : ℕ) {k l : List ℕ} (a : number < 2 ^ count) (b : more < 2 ^ width) (p : to_bits count number ≡ k) (q : to_bits width more ≡ l)
+    (few : length k + length l ≤ 40) where
+  -- so many bits
+  together : count + width ≤ 40
+  together = omega (arith, held_length count number p, held_length width more q)
 
--- bits that are held, by another name
-pub held_as : {number count : ℕ} {l k : List ℕ} → Holds number count l → l ≡ k → Holds number count k
-held_as {number} {count} h e = subst (Holds number count) e h
+  -- bits with more after them fit a number
+  pub then_fits : Fits w64 (number * 2 ^ width % 2 ^ 64 + more)
+  then_fits = join_fits number count more width a b together
+
+  -- that so many bits hold
+  pub then_held : (number * 2 ^ width % 2 ^ 64 + more < 2 ^ (count + width)) × (count + width ≤ 40)
+  then_held = ((join_is number count more width a b together).1, together)
+
+  -- and they are these
+  pub then_is : to_bits (count + width) (number * 2 ^ width % 2 ^ 64 + more) ≡ k ++ l
+  then_is = ap (to_bits (count + width)) (join_is number count more width a b together).0 ∙ to_bits_join count width number more b ∙ ap₂ ◌++◌ p q
 
 -- ---- the shape of a magnitude, where the tests say which
 
@@ -147,22 +131,10 @@ to_bits_split (suc a) b x =
     ap (λ (k : ℕ). to_bits k x) (suc-add a b)
     ∙ ap₂ ◌∷◌ (ap (λ (k : ℕ). k % 2) (ap (λ (k : ℕ). x / 2 ^ k) turn ∙ sym (shr-shr x b a))) (to_bits_split a b x)
 
--- the last bits of a number are those of its rest
-to_bits-rest : (w x : ℕ) → to_bits w (x % 2 ^ w) ≡ to_bits w x
-to_bits-rest w x = sym (to_bits_low w (x / 2 ^ w) (x % 2 ^ w)) ∙ ap (to_bits w) (split x w)
-
 -- the bits of a number's last byte
 byte_rest : (number : ℕ) → byte_bits (number % 256) ≡ to_bits 8 number
 unfolding byte_bits
 byte_rest number = to_bits-rest 8 number
-
--- the last bits of a byte taken away, as shifts do it
-pub kept_is : (byte room : ℕ) → byte < 256
-    → (byte / 2 ^ room * 2 ^ room % 2 ^ 64 ≡ byte / 2 ^ room * 2 ^ room) × (byte / 2 ^ room * 2 ^ room % 2 ^ 64 < 256)
-kept_is byte room h =
-    let few : byte / 2 ^ room * 2 ^ room < 256 = omega (arith, split byte room) in
-    let e : byte / 2 ^ room * 2 ^ room % 2 ^ 64 ≡ byte / 2 ^ room * 2 ^ room = mod-eq_of_lt (omega arith) in
-    (e, subst (λ (n : ℕ). n < 256) (sym e) few)
 
 module _ (byte room number top : ℕ) (small_byte : byte < 256) (in_byte : room ≤ 8) (fits : number < 2 ^ room) (top_is : top ≡ byte / 2 ^ room * 2 ^ room) where
   -- a byte whose last bits are replaced
@@ -270,16 +242,6 @@ byte_stored bytes i number h =
 pub same_bits_count : (a b : List ℕ) → length a ≡ length b → length (bits_that_count a) ≡ length (bits_that_count b)
 same_bits_count a b e = omega (arith, length-bits_that_count a, length-bits_that_count b)
 
--- nothing has been put yet
-pub put_none : (old : List ℕ) (at count number : ℕ) → bits_of old ≡ put (bits_of old) at (to_bits (count - count) (number / 2 ^ count))
-put_none old at count number =
-    let l : List ℕ = bits_of old in
-    let z : 0 ≡ count - count = omega arith in
-    let same : at ≡ at + 0 = omega arith in
-    sym (take-append-drop at l)
-    ∙ ap (λ (n : ℕ). take at l ++ drop n l) same
-    ∙ ap (λ (n : ℕ). put l at (to_bits n (number / 2 ^ count))) z
-
 -- bits put after bits that were put
 put_after : (l : List ℕ) (at here : ℕ) (a b : List ℕ) → at ≤ length l → here ≡ at + length a → put (put l at a) here b ≡ put l at (a ++ b)
 put_after l at here a b h e =
@@ -327,92 +289,29 @@ put_both old now last at here number count room rest fits place parts e f =
     (place ∙ ap (λ (n : ℕ). at + n) (sym (length-to_bits room (number / 2 ^ rest))))
     ∙ ap (put (bits_of old) at) (sym (to_bits_split room rest number) ∙ ap (λ (n : ℕ). to_bits n number) many)
 
--- no bits to put
-pub put_nothing : (old : List ℕ) (at count number : ℕ) → count ≤ 0 → bits_of old ≡ put (bits_of old) at (to_bits count number)
-put_nothing old at count number h =
-    let z : count ≡ 0 = omega arith in
-    put_none old at 0 number ∙ ap (λ (n : ℕ). put (bits_of old) at (to_bits n number)) (sym z)
-
--- all bits have been put
-pub put_done : (old now : List ℕ) (at count number left : ℕ) → left ≡ 0
-    → bits_of now ≡ put (bits_of old) at (to_bits (count - left) (number / 2 ^ left)) → bits_of now ≡ put (bits_of old) at (to_bits count number)
-put_done old now at count number left z e =
-    let all : count - left ≡ count = omega arith in
-    let whole : number / 2 ^ left ≡ number = ap (λ (n : ℕ). number / 2 ^ n) z ∙ native.Mathlib.Nat.div-one number in
-    e ∙ ap₂ (λ (m n : ℕ). put (bits_of old) at (to_bits m n)) all whole
-
 -- ---- the code of a magnitude from 16 on
 
--- the bits left out of 16 to 31
-pub left_four : (k d w : ℕ) → k ≡ 4 → w ≡ d → 1 + w ≡ left_out d k
-left_four k d w e q = ap (λ (n : ℕ). 1 + n) q ∙ ap (λ (b : Bool). pick b (1 + d) (k / 2 + d)) (sym (eq-eqb k 4 e))
-
--- and of every other place
-pub left_other : (k d w : ℕ) → (k ≡ 4 → ⊥) → w ≡ d → k / 2 + w ≡ left_out d k
-left_other k d w e q = ap (λ (n : ℕ). k / 2 + n) q ∙ ap (λ (b : Bool). pick b (1 + d) (k / 2 + d)) (sym (ne_eqb k 4 e))
-
 module _ (d s m k left x : ℕ) (place : k ≡ leading m) (left_is : left ≡ left_out d k) (x_is : x ≡ m % 2 ^ k / 2 ^ left) where
-  -- its field
-  same_field : to_bits (k - left) x ≡ to_bits (width d k) (m % 2 ^ k / 2 ^ left_out d k)
-  same_field = ap₂ to_bits (ap (λ (n : ℕ). k - n) left_is) (x_is ∙ ap (λ (n : ℕ). m % 2 ^ k / 2 ^ n) left_is)
-
   -- it lies in its width
   pub field_fits : Drop d → 4 ≤ k → x < 2 ^ (k - left)
   field_fits dr four =
       let b = below_led k dr four in
       subst (λ (n : ℕ). n < 2 ^ (k - left)) (sym x_is) (high_lt (k - left) left k (mod-lt m (pow_pos k)) (omega (arith, b.all)))
 
-  -- bits by their place are those by the leading one
-  by_place : {number count : ℕ} → Holds number count (bits d (led_of d s k m)) → Holds number count (bits d (led_of d s (leading m) m))
-  by_place {number} {count} h = subst (λ (n : ℕ). Holds number count (bits d (led_of d s n m))) place h
+module _ (d s m : ℕ) {l : List ℕ} where
+  -- nought is one bit
+  pub nought_code : m < least_coded d → l ≡ 0 ∷ [] → (l ≡ bits d (shape_of d s m)) × (length l ≤ 33)
+  nought_code h e = (e ∙ ap (bits d) (sym (shape_nought d s m h)), omega (arith, ap length e))
 
-  -- 16 to 31: one one, and the field
-  pub four_holds : (number count : ℕ) → k ≡ 4 → Holds number count (coded s 1 (to_bits (k - left) x)) → Holds number count (bits d (led_of d s (leading m) m))
-  four_holds number count four held =
-      by_place (held_as held (ap (coded s 1) same_field
-      ∙ ap (λ (n : ℕ). coded s (ones_of n) (with_parity n (to_bits (width d k) (m % 2 ^ k / 2 ^ left_out d k)))) (sym four)))
+  -- the code of a small magnitude
+  pub small_code : {least : ℕ} → least ≡ least_coded d → least ≤ m → m < 16 → (l ≡ coded s 0 (to_bits (4 - d) (m / 2 ^ d))) × (length l ≤ 33)
+      → (l ≡ bits d (shape_of d s m)) × (length l ≤ 33)
+  small_code e a h p = (p.0 ∙ ap (bits d) (sym (shape_small d s m (omega arith) h)), p.1)
 
-  -- from 32 on: parity and field, side by side
-  pub led_holds : (j number count : ℕ) → Drop d → 4 ≤ k → (k ≡ 4 → ⊥) → j ≡ (k - 1) % 2 * 2 ^ (k - left) + x
-      → Holds number count (coded s ((k - 1) / 2) (to_bits (1 + (k - left)) j))
-      → Holds number count (bits d (led_of d s (leading m) m))
-  led_holds j number count dr four other j-is held =
-      let l : List ℕ = to_bits (width d k) (m % 2 ^ k / 2 ^ left_out d k) in
-      by_place (held_as held
-      (ap (coded s (ones_of k))
-      (ap (to_bits (1 + (k - left))) j-is
-      ∙ bit_before (k - left) ((k - 1) % 2) x (mod-lt (k - 1) (pow_pos 1)) (field_fits dr four)
-      ∙ ap (λ (r : List ℕ). (k - 1) % 2 ∷ r) same_field
-      ∙ ap (λ (b : Bool). pick b l ((k - 1) % 2 ∷ l)) (sym (ne_eqb k 4 other)))))
-
--- nought is one bit
-pub nought_holds : (d s m : ℕ) → m < least_coded d → Holds 0 1 (bits d (shape_of d s m))
-nought_holds d s m h =
-    held_as {number = 0} {count = 1} (record { bits_are = refl; number_fits = omega arith; few = omega arith }) (ap (bits d) (sym (shape_nought d s m h)))
-
--- the drop's own least coded magnitude
-pub least_three : (d : ℕ) → (d ≡ 0 → ⊥) → 4 ≡ least_coded d
-least_three zero h = absurd (h refl)
-least_three (suc d) h = refl
-
--- the code of a small magnitude
-pub small_holds : (d s m least number count : ℕ) → least ≡ least_coded d → least ≤ m → m < 16
-    → Holds number count (coded s 0 (to_bits (4 - d) (m / 2 ^ d))) → Holds number count (bits d (shape_of d s m))
-small_holds d s m least number count e a h held = held_as held (ap (bits d) (sym (shape_small d s m (omega arith) h)))
-
--- the code of a magnitude from 16 on
-pub led_code_holds : (d s m least number count : ℕ) → least ≡ least_coded d → least ≤ m → 16 ≤ m
-    → Holds number count (bits d (led_of d s (leading m) m)) → Holds number count (bits d (shape_of d s m))
-led_code_holds d s m least number count e a b held = held_as held (ap (bits d) (sym (shape_led d s m (omega arith) b)))
-
--- a small field lies in its width
-pub small_field_lt : (d left m : ℕ) → Drop d → left ≡ d → m < 16 → m / 2 ^ left < 2 ^ (4 - left)
-small_field_lt d left m dr e h = high_lt (4 - left) left 4 h (omega (arith, drop_small dr))
-
--- and its code is that of the drop
-pub small_is : (d left s m number count : ℕ) → left ≡ d → Holds number count (coded s 0 (to_bits (4 - left) (m / 2 ^ left)))
-    → Holds number count (coded s 0 (to_bits (4 - d) (m / 2 ^ d)))
-small_is d left s m number count e held = held_as held (ap (λ (n : ℕ). coded s 0 (to_bits (4 - n) (m / 2 ^ n))) e)
+  -- the code of a magnitude from 16 on
+  pub led_code : {least : ℕ} → least ≡ least_coded d → least ≤ m → 16 ≤ m → (l ≡ bits d (led_of d s (leading m) m)) × (length l ≤ 33)
+      → (l ≡ bits d (shape_of d s m)) × (length l ≤ 33)
+  led_code e a b p = (p.0 ∙ ap (bits d) (sym (shape_led d s m (omega arith) b)), p.1)
 
 -- ---- bits placed in a buffer
 
@@ -421,78 +320,22 @@ place_by : (buffer : List ℕ) (at : ℕ) (l : List ℕ) {t : Bool} → fits_at 
     → place_means buffer at l ≡ pick t (accept (at + length l) (bytes_with buffer at l)) (refuse 3 buffer)
 place_by buffer at l e = ap (λ (b : Bool). pick b (accept (at + length l) (bytes_with buffer at l)) (refuse 3 buffer)) e
 
--- they do not fit
-pub place_short : (buffer : List ℕ) (at number count end : ℕ) → end ≡ length (bits_that_count buffer) → end < at + count
-    → PlacePromise buffer at (to_bits count number) (Err TooShort) buffer
-place_short buffer at number count end e h =
-    let t : fits_at buffer at (to_bits count number) ≡ false
-    = lt-leb (at + length (to_bits count number)) (length (bits_that_count buffer)) (omega (arith, length-to_bits count number)) in
-    record { outcome = sym (place_by buffer at (to_bits count number) t) }
-
--- a code's number with room for the rest of its last byte
-padded_is : (at number count pad : ℕ) → pad ≡ to_byte_end (at + count)
-    → to_bits (count + pad) (number * 2 ^ pad + 0) ≡ padded at (to_bits count number)
-padded_is at number count pad e =
-    to_bits_join count pad number 0 (pow_pos pad)
-    ∙ ap (λ (k : List ℕ). to_bits count number ++ k)
-    (to_bits-zeros pad ∙ ap (λ (n : ℕ). replicate n 0) (e ∙ ap (λ (n : ℕ). to_byte_end (at + n)) (sym (length-to_bits count number))))
-
 -- they fit
-pub place_there : (buffer last : List ℕ) (at number count end pad joined : ℕ) → end ≡ length (bits_that_count buffer) → at + count ≤ end
-    → pad ≡ to_byte_end (at + count) → joined ≡ number * 2 ^ pad + 0 → length last ≡ length buffer → Bytes last
-    → bits_of last ≡ put (bits_of buffer) at (to_bits (count + pad) joined)
-    → PlacePromise buffer at (to_bits count number) (Ok (at + count)) last
-place_there buffer last at number count end pad joined e h p q same ok wrote =
-    let l : List ℕ = to_bits count number in
-    let t : fits_at buffer at l ≡ true = le-leb (at + length l) (length (bits_that_count buffer)) (omega (arith, length-to_bits count number)) in
-    let code : to_bits (count + pad) joined ≡ padded at l = ap (to_bits (count + pad)) q ∙ padded_is at number count pad p in
+pub place_there : (buffer last : List ℕ) (at : ℕ) (l new zeros : List ℕ) (end count pad : ℕ) → end ≡ length (bits_that_count buffer) → count ≡ length l
+    → at + count ≤ end → pad ≡ to_byte_end (at + count) → zeros ≡ replicate pad 0 → new ≡ l ++ zeros → length last ≡ length buffer → Bytes last
+    → bits_of last ≡ put (bits_of buffer) at new → PlacePromise buffer at l (Ok (at + count)) last
+place_there buffer last at l new zeros end count pad e n h p z q same ok wrote =
+    let t : fits_at buffer at l ≡ true = le-leb (at + length l) (length (bits_that_count buffer)) (omega arith) in
+    let code : new ≡ padded at l
+    = q ∙ ap (λ (k : List ℕ). l ++ k) (z ∙ ap (λ (i : ℕ). replicate i 0) (p ∙ ap (λ (i : ℕ). to_byte_end (at + i)) n)) in
     let bytes : last ≡ bytes_with buffer at l
-    = sym (bytes_back last ok) ∙ ap₂ (λ (n : ℕ) (k : List ℕ). bytes_from n k) same (wrote ∙ ap (put (bits_of buffer) at) code) in
+    = sym (bytes_back last ok) ∙ ap₂ (λ (i : ℕ) (k : List ℕ). bytes_from i k) same (wrote ∙ ap (put (bits_of buffer) at) code) in
     record {
       outcome =
-          ap₂ (λ (n : ℕ) (k : List ℕ). accept (at + n) k) (sym (length-to_bits count number)) bytes
+          ap₂ (λ (i : ℕ) (k : List ℕ). accept (at + i) k) n bytes
           ∙ sym (place_by buffer at l t);
     }
 
 -- ---- a number packed
 
--- inside the rule
-pub pack_is : (buffer last : List ℕ) (at : ℕ) (v : ℤ) (d s m number count : ℕ) (r : Result ℕ NotPacked)
-    → m ≡ nat_abs v → s ≡ sign_of v → (drop_known d && leb m largest) ≡ true
-    → Holds number count (bits d (shape_of d s m)) → PlacePromise buffer at (to_bits count number) r last
-    → PackPromise buffer at v d r last
-pack_is buffer last at v d s m number count r em es t held placed =
-    let code : to_bits count number ≡ code_of d v
-    = held.bits_are ∙ ap₂ (λ (a b : ℕ). bits d (shape_of d a b)) es em in
-    let rule : in_rule v d ≡ true = ap (λ (n : ℕ). drop_known d && leb n largest) (sym em) ∙ t in
-    record {
-      outcome =
-          placed.outcome
-          ∙ ap (place_means buffer at) code
-          ∙ sym (ap (λ (b : Bool). pick b (place_means buffer at (code_of d v)) (refuse 8 buffer)) rule);
-    }
-
--- outside the rule
-pub pack_refuses : (buffer : List ℕ) (at : ℕ) (v : ℤ) (d m : ℕ) → m ≡ nat_abs v → (drop_known d && leb m largest) ≡ false
-    → PackPromise buffer at v d (Err OutsideRule) buffer
-pack_refuses buffer at v d m em t =
-    let rule : in_rule v d ≡ false = ap (λ (n : ℕ). drop_known d && leb n largest) (sym em) ∙ t in
-    record { outcome = sym (ap (λ (b : Bool). pick b (place_means buffer at (code_of d v)) (refuse 8 buffer)) rule) }
-
 -- ---- a field of a number
-
--- at most 32 bits: they are put as a code's are
-pub field_is : (buffer last : List ℕ) (at number width bits : ℕ) (r : Result ℕ NotPacked) → width ≤ 32 → bits ≡ number % 2 ^ width
-    → PlacePromise buffer at (to_bits width bits) r last → FieldPromise buffer at number width r last
-field_is buffer last at number width bits r h e placed =
-    record {
-      outcome =
-          placed.outcome
-          ∙ ap (place_means buffer at) (ap (to_bits width) e ∙ to_bits-rest width number)
-          ∙ sym (ap (λ (b : Bool). pick b (place_means buffer at (to_bits width number)) (refuse 8 buffer)) (le-leb width 32 h));
-    }
-
--- more than 32
-pub field_refuses : (buffer : List ℕ) (at number width : ℕ) → 32 < width → FieldPromise buffer at number width (Err OutsideRule) buffer
-field_refuses buffer at number width h =
-    record { outcome = sym (ap (λ (b : Bool). pick b (place_means buffer at (to_bits width number)) (refuse 8 buffer)) (lt-leb width 32 h)) }

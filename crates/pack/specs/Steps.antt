@@ -1,6 +1,6 @@
 -- What the parts of writing a code answer for: bits held in a number, and bits put at a position.
 -- Assumes nothing.
-use Rattle.std.specs.Prelude.{◌≡◌, List, ℕ, ◌^◌, ◌<◌, ◌≤◌, Result}
+use Rattle.std.specs.Prelude.{◌≡◌, List, ℕ, Result}
 use Rattle.ground.specs.Outcome.{outcome_of}
 use Rattle.ground.specs.Bits.{to_bits}
 use Rattle.code.specs.Meaning.{place_means}
@@ -10,12 +10,6 @@ use Rattle.code.specs.declared.NotPacked.{NotPacked}
 -- the bits of a byte
 unfoldable pub byte_bits : ℕ → List ℕ
 byte_bits b = to_bits 8 b
-
--- a number that holds bits: so many, and these
-pub record Holds (number count : ℕ) (l : List ℕ) : Type 0 where
-  pub bits_are : to_bits count number ≡ l
-  pub number_fits : number < 2 ^ count
-  pub few : count ≤ 33
 
 -- putting bits answers and leaves what it means
 pub record PlacePromise (buffer : List ℕ) (at : ℕ) (l : List ℕ) (r : Result ℕ NotPacked) (after : List ℕ) : Type 0 where

@@ -4,27 +4,18 @@ ghost use Rattle.ground.specs.Bits.{to_bits, bits_of};
 ghost use Rattle.ground.specs.Putting.{put as put_over};
 ghost use Rattle.code.specs.Meaning.{least_coded, leading as leading_place, shape_of, bits, coded as coded_bits, led_of, left_out, bits_that_count, to_byte_end, largest, greatest_place};
 ghost use Rattle.code.specs.Shapes.{Drop};
-ghost use Rattle.pack.specs.Steps.{Holds, PlacePromise, byte_bits};
+ghost use Rattle.pack.specs.Steps.{PlacePromise, byte_bits};
 
+use crate::held::Held;
 use code::NotPacked;
-
-// Bits held in a number, the first counting most.
-#[derive(Clone, Copy)]
-pub(crate) struct Held {
-    pub(crate) number: u64,
-    pub(crate) count: u32,
-}
 
 // The code of a sign and a magnitude inside the rule.
 pub(crate) fn code(drop: u8, sign: u32, m: u32) -> Held
     requires { Drop drop × (sign < 2) × (m ≤ largest) }
-    ensures { Holds result.number result.count (bits drop (shape_of drop sign m)) }
+    ensures { (result ≡ bits drop (shape_of drop sign m)) × (length result ≤ 33) }
 {
     if m < least_coded(drop) {
-        return Held {
-            number: 0,
-            count: 1,
-        };
+        return Held::zeros(1);
     }
     if m < 16 {
         return small(drop, sign, m);
@@ -42,30 +33,28 @@ fn least_coded(drop: u8) -> u32
 // The code of a magnitude under 16 that has one of its own.
 fn small(drop: u8, sign: u32, m: u32) -> Held
     requires { Drop drop × (sign < 2) × (m < 16) }
-    ensures { Holds result.number result.count (coded_bits sign 0 (to_bits (4 - drop) (m / 2 ^ drop))) }
+    ensures { (result ≡ coded_bits sign 0 (to_bits (4 - drop) (m / 2 ^ drop))) × (length result ≤ 33) }
 {
     let left = code::wide(drop);
-    coded(sign, 0, (m >> left) as u64, 4 - left)
+    coded(sign, 0, Held::of(u64::from(m >> left), 4 - left))
 }
 
 // The code of a magnitude from 16 on.
 fn led(drop: u8, sign: u32, m: u32) -> Held
     requires { Drop drop × (sign < 2) × (16 ≤ m) × (m ≤ largest) }
-    ensures { Holds result.number result.count (bits drop (led_of drop sign (leading_place m) m)) }
+    ensures { (result ≡ bits drop (led_of drop sign (leading_place m) m)) × (length result ≤ 33) }
 {
     let k = leading(m);
     let left = left_out(k, drop);
-    let width = k - left;
-    let x = below(m, k, left);
+    let field = Held::of(u64::from(below(m, k, left)), k - left);
     if k == 4 {
-        return coded(sign, 1, x as u64, width);
+        return coded(sign, 1, field);
     }
     let parity = (k - 1) % 2;
     coded(
         sign,
         (k - 1) / 2,
-        join(parity as u64, 1, x as u64, width),
-        1 + width,
+        Held::of(u64::from(parity), 1).then(field),
     )
 }
 
@@ -74,7 +63,7 @@ fn leading(m: u32) -> u32
     requires { (16 ≤ m) × (m ≤ largest) }
     ensures { (result ≡ leading_place m) × (4 ≤ result) × (result ≤ greatest_place) }
 {
-    31 - u32::leading_zeros(m)
+    31 - m.leading_zeros()
 }
 
 // How many bits below the leading one the code of a magnitude leaves out, by the place of its leading one.
@@ -97,56 +86,27 @@ fn below(m: u32, k: u32, left: u32) -> u32
 }
 
 // `1 s`, so many ones, `0`, then a field.
-fn coded(sign: u32, ones: u32, after: u64, width: u32) -> Held
-    requires { (sign < 2) × (after < 2 ^ width) × (ones + width ≤ 30) }
-    ensures { Holds result.number result.count (coded_bits sign ones (to_bits width after)) }
+fn coded(sign: u32, ones: u32, field: Held) -> Held
+    requires { (sign < 2) × (ones + length field ≤ 30) }
+    ensures { (result ≡ coded_bits sign ones field) × (length result ≤ 33) }
 {
-    let head = join((2 + sign) as u64, 2, all_ones(ones), ones);
-    Held {
-        number: join(head, 2 + ones, after, 1 + width),
-        count: 2 + ones + (1 + width),
-    }
-}
-
-// So many ones.
-fn all_ones(count: u32) -> u64
-    requires { count ≤ 30 }
-    ensures { (result ≡ 2 ^ count - 1) × (result < 2 ^ count) }
-{
-    (1 << count) - 1
-}
-
-// Bits with more bits after them.
-fn join(number: u64, count: u32, more: u64, width: u32) -> u64
-    requires { (number < 2 ^ count) × (more < 2 ^ width) × (count + width ≤ 40) }
-    ensures { (result ≡ number * 2 ^ width + more) × (result < 2 ^ (count + width)) }
-{
-    (number << width) + more
-}
-
-// The last bits of a number.
-pub(crate) fn last(number: u64, width: u32) -> u64
-    requires { width < 64 }
-    ensures { (result ≡ number % 2 ^ width) × (result < 2 ^ width) }
-{
-    number % (1 << width)
+    Held::of(u64::from(2 + sign), 2)
+        .then(Held::ones(ones))
+        .then(Held::zeros(1).then(field))
 }
 
 // Bits put at a position, the rest of their last byte set to 0; or nothing, where they do not fit.
-pub(crate) fn place(buffer: &mut [u8], at: u64, number: u64, count: u32) -> Result<u64, NotPacked>
-    requires { (number < 2 ^ count) × (count ≤ 33) }
-    ensures { PlacePromise buffer.old at (to_bits count number) result buffer.new }
+pub(crate) fn place(buffer: &mut [u8], at: u64, bits: Held) -> Result<u64, NotPacked>
+    requires { length bits ≤ 33 }
+    ensures { PlacePromise buffer.old at bits result buffer.new }
 {
     let end = code::end_of(buffer);
-    if end < at {
+    let count = u64::from(bits.len());
+    if end < at || end - at < count {
         return Err(NotPacked::TooShort);
     }
-    if end - at < count as u64 {
-        return Err(NotPacked::TooShort);
-    }
-    let next = at + count as u64;
-    let pad = to_byte_end(next);
-    put(buffer, at, join(number, count, 0, pad), count + pad);
+    let next = at + count;
+    put(buffer, at, bits.then(Held::zeros(to_byte_end(next))));
     Ok(next)
 }
 
@@ -158,14 +118,14 @@ fn to_byte_end(at: u64) -> u32
 }
 
 // Bits that end where a byte ends: as many as the first byte has room for, then whole bytes.
-fn put(buffer: &mut [u8], at: u64, number: u64, count: u32)
-    requires { (at + count ≤ length (bits_that_count buffer.old)) × (count ≤ 40) × ((at + count) % 8 ≡ 0) × (number < 2 ^ count) }
-    ensures { bits_of buffer.new ≡ put_over (bits_of buffer.old) at (to_bits count number) }
+fn put(buffer: &mut [u8], at: u64, bits: Held)
+    requires { (at + length bits ≤ length (bits_that_count buffer.old)) × ((at + length bits) % 8 ≡ 0) }
+    ensures { bits_of buffer.new ≡ put_over (bits_of buffer.old) at bits }
 {
-    if 0 < count {
-        let left = count - room_at(at);
-        put_part(buffer, at, number >> left);
-        put_bytes(buffer, (at / 8) as usize + 1, number, left);
+    if 0 < bits.count {
+        let left = bits.count - room_at(at);
+        put_part(buffer, at, bits.number >> left);
+        put_bytes(buffer, (at / 8) as usize + 1, bits.number, left);
     }
 }
 
@@ -175,19 +135,10 @@ fn put_bytes(buffer: &mut [u8], first: usize, number: u64, count: u32)
     ensures { bits_of buffer.new ≡ put_over (bits_of buffer.old) (8 * first) (to_bits count number) }
 {
     let mut left = count;
-    let mut i = first;
-    while 0 < left {
-        left -= eight_of(left);
+    for i in first..first + (count / 8) as usize {
+        left -= 8;
         put_byte(buffer, i, number >> left);
-        i += 1;
     }
-}
-
-// How many bits the next whole byte takes of those that are left: eight, where so many are left.
-fn eight_of(left: u32) -> u32
-    ensures { (result ≤ 8) × (result ≤ left) × (8 ≤ left → result ≡ 8) }
-{
-    if left < 8 { left } else { 8 }
 }
 
 // The last eight bits of a number put as a byte.
@@ -211,15 +162,8 @@ fn put_part(buffer: &mut [u8], at: u64, number: u64)
     ensures { bits_of buffer.new ≡ put_over (bits_of buffer.old) at (to_bits (8 - at % 8) number) }
 {
     let i = (at / 8) as usize;
-    let byte = filled(byte_wide(buffer[i]), room_at(at), number);
+    let byte = filled(u64::from(buffer[i]), room_at(at), number);
     buffer[i] = byte as u8;
-}
-
-// A byte as a number to compute with.
-fn byte_wide(byte: u8) -> u64
-    ensures { (result ≡ byte) × (result < 256) }
-{
-    byte as u64
 }
 
 // A byte whose last bits are those of a number.

@@ -1,14 +1,7 @@
 -- `pack::write::filled` meets its contract: the bits before the last ones stay, and those are the number's.
 -- Assumes nothing.
-use lib.Pow.{pow_mono}
 use Rattle.pack.proofs.Writing.{filled_lt, filled_bits}
-use native.Mathlib.Omega.{arith}
 use Rattle.pack.proofs.write.filled.Goals as goal
-
-pub overflow_add-result : goal.overflow_add-result
-overflow_add-result c =
-    let p = c.requires in
-    omega (arith, p.2, pow_mono {i = c.args.room} {j = 8} p.1, c.kept.ensures.1)
 
 pub returns : goal.returns
 returns c =

@@ -1,61 +1,25 @@
 -- `pack::write::put_bytes` meets its contract: after each turn all bits but those that are left stand at their places.
 -- Assumes nothing.
-use mathlib.Core.Path.{refl, ◌∙◌}
 use Prim.Native.Nat.{◌-◌, ◌*◌}
 use Rattle.code.specs.Positions.{length-bits_that_count}
-use Rattle.pack.proofs.Writing.{put_none, put_turn, put_done}
+use Rattle.pack.proofs.Writing.{put_turn}
 use native.Mathlib.Omega.{arith}
 use Rattle.pack.proofs.write.put_bytes.Goals as goal
 
-pub loop-left-init : goal.loop-left-init
-loop-left-init c =
-    let a = c.args in
-    (omega arith, c.requires.2, omega arith, refl, put_none a.buffer.now (8 * a.first) a.count a.number)
-
-pub eight_of-left-requires : goal.eight_of-left-requires
-eight_of-left-requires c = tt
-
-pub overflow_sub-left : goal.overflow_sub-left
-overflow_sub-left c = c.eight_of-left.ensures.1
+pub overflow_add-i-end : goal.overflow_add-i-end
+overflow_add-i-end c = omega (arith, c.requires.0, length-bits_that_count c.args.buffer.now)
 
 pub put_byte-requires : goal.put_byte-requires
 put_byte-requires c =
-    let l = c.loop-left in
-    omega (arith, c.requires.0, l.invariant.0, l.invariant.2, l.invariant.3, length-bits_that_count c.args.buffer.now, c.loop-left-test.true)
+    omega (arith, c.requires.0, length-bits_that_count c.args.buffer.now, c.loop-i.auto.buffer)
 
-pub overflow_add-i : goal.overflow_add-i
-overflow_add-i c =
-    let l = c.loop-left in
-    omega (arith, c.requires.0, l.invariant.0, l.invariant.2, length-bits_that_count c.args.buffer.now)
-
-pub loop-left-smaller : goal.loop-left-smaller
-loop-left-smaller c =
-    let l = c.loop-left in
-    let t = c.loop-left-test.true in
-    let e = c.eight_of-left in
-    omega (arith, t, e.ensures.2 (omega (arith, l.invariant.1, t)))
-
-pub loop-left-preserved : goal.loop-left-preserved
-loop-left-preserved c =
-    let l = c.loop-left in
-    let t = c.loop-left-test.true in
-    let n = c.eight_of-left.result in
-    let e = c.eight_of-left.ensures.2 (omega (arith, l.invariant.1, t)) in
+pub loop-i-preserved : goal.loop-i-preserved
+loop-i-preserved c =
+    let l = c.loop-i in
     let p = c.put_byte in
     let a = c.args in (
-      omega arith,
-      omega (arith, l.invariant.1, t, e),
-      omega (arith, l.invariant.0, l.invariant.1, l.invariant.2, t, e),
-      p.auto.buffer ∙ l.invariant.3,
-      put_turn a.buffer.now l.buffer p.new.buffer (8 * a.first) a.count a.number (8 * l.i) l.left 8 (l.left - n) c.requires.0
-          l.invariant.0 l.invariant.2 (omega (arith, l.invariant.1, t, e)) l.invariant.4 p.ensures,
+      omega (arith, l.invariant.0),
+      omega (arith, l.invariant.0, l.invariant.1, c.requires.2),
+      put_turn a.buffer.now l.buffer p.new.buffer (8 * a.first) a.count a.number (8 * l.i) l.left 8 (l.left - 8) c.requires.0
+          l.invariant.0 l.invariant.1 (omega (arith, l.invariant.0, l.invariant.1, c.requires.2)) l.invariant.2 p.ensures,
     )
-
-pub shape_of-buffer : goal.shape_of-buffer
-shape_of-buffer c = c.loop-left.invariant.3
-
-pub returns : goal.returns
-returns c =
-    let a = c.args in
-    let l = c.loop-left in
-    put_done a.buffer.now l.buffer (8 * a.first) a.count a.number l.left (omega (arith, c.loop-left-test.false)) l.invariant.4

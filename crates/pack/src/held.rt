@@ -1,0 +1,73 @@
+// Bits held in a number.
+ghost use Rattle.std.specs.Prelude.{◌≡◌, ℕ, ◌+◌, ◌%◌, ◌^◌, ◌<◌, ◌≤◌, List, ◌++◌, length, replicate};
+ghost use Rattle.ground.specs.Bits.{to_bits};
+
+use std::marker::Model;
+
+// Bits held in a number, the first counting most: at most 40 of them.
+#[derive(Drop)]
+pub(crate) struct Held {
+    pub(crate) number: u64,
+    pub(crate) count: u32,
+}
+
+// Clauses see the bits.
+impl Model for Held {
+    ghost Value = { List ℕ };
+
+    ghost view = { λ held. to_bits held.count held.number };
+
+    ghost invariant = { λ held. (held.number < 2 ^ held.count) × (held.count ≤ 40) };
+}
+
+impl Held {
+    // A number that so many bits hold.
+    pub(crate) fn of(number: u64, count: u32) -> Held
+        requires { (number < 2 ^ count) × (count ≤ 40) }
+        ensures { result ≡ to_bits count number }
+    {
+        Held { number, count }
+    }
+
+    // The last bits of a number.
+    pub(crate) fn last(number: u64, count: u32) -> Held
+        requires { count ≤ 40 }
+        ensures { result ≡ to_bits count number }
+    {
+        Held::of(number % (1 << count), count)
+    }
+
+    // So many ones.
+    pub(crate) fn ones(count: u32) -> Held
+        requires { count ≤ 30 }
+        ensures { result ≡ replicate count 1 }
+    {
+        Held::of((1 << count) - 1, count)
+    }
+
+    // So many zeros.
+    pub(crate) fn zeros(count: u32) -> Held
+        requires { count ≤ 40 }
+        ensures { result ≡ replicate count 0 }
+    {
+        Held::of(0, count)
+    }
+
+    // These bits, and more after them.
+    pub(crate) fn then(self, more: Held) -> Held
+        requires { length self + length more ≤ 40 }
+        ensures { result ≡ self ++ more }
+    {
+        Held::of(
+            (self.number << more.count) + more.number,
+            self.count + more.count,
+        )
+    }
+
+    // How many bits there are.
+    pub(crate) fn len(&self) -> u32
+        ensures { result ≡ length self.now }
+    {
+        self.count
+    }
+}
