@@ -4,9 +4,8 @@ use mathlib.Core.Path.{◌≡◌, sym, ap, ap₂, ◌∙◌, subst}
 use Prim.Native.Nat.{ℕ, ◌+◌, ◌-◌, ◌*◌, ◌/◌, ◌^◌, ◌≤◌, ◌<◌}
 use native.Mathlib.Nat.{lt_of_lt_of_le}
 use lib.Count.{count_leading_zeros}
-use borrow.Author.Tests.{eq-eqb, ne_eqb}
 use Rattle.ground.specs.Paper.{accepted}
-use Rattle.format.specs.Meaning.{exponent, mantissa, float_value, Largest, Takes}
+use Rattle.format.specs.Meaning.{float_value, Largest, Takes}
 use Rattle.format.specs.Floats.{code_largest}
 
 -- below the limit, the halvings and what they leave make the code that the count takes
@@ -18,11 +17,3 @@ took w limit {count} a l b e q = (
       (sym (ap₂ (λ (x y : ℕ). x * 2 ^ w + y) e (q ∙ ap (λ (x : ℕ). count / 2 ^ x) e)))
       (code_largest w count a (lt_of_lt_of_le b l)),
 )
-
--- a code without exponent means its mantissa
-pub without : (w code : ℕ) → exponent w code ≡ 0 → mantissa w code ≡ float_value w code
-without w code e = rw (eq-eqb (exponent w code) 0 e)
-
--- any other means its mantissa and the leading one, raised
-pub raised : (w code : ℕ) → (exponent w code ≡ 0 → ⊥) → (mantissa w code + 2 ^ w) * 2 ^ (exponent w code - 1) ≡ float_value w code
-raised w code e = rw (ne_eqb (exponent w code) 0 e)

@@ -1,6 +1,6 @@
 -- Each answer as document 01 has it, and the way back.
 -- Assumes nothing.
-use Rattle.std.specs.Prelude.{◌≡◌, refl, [], ℕ, Result}
+use Rattle.std.specs.Prelude.{refl, [], ℕ, Result}
 use Rattle.ground.specs.Paper.{Paper}
 use Rattle.ground.specs.Refusals.{Refusals, on_paper}
 use Rattle.format.specs.declared.TooLarge.{TooLarge}

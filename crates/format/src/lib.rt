@@ -1,8 +1,9 @@
 // The plain count formats: a 16-bit float, an 8-bit float and a 24-bit integer, from count to code and back.
 #![tactic(auto)]
 
-ghost use Rattle.std.specs.Prelude.{◌≡◌, ◌-◌, ◌*◌, ◌/◌, ◌^◌, ◌<◌};
-ghost use Rattle.std.specs.Int.Count.{count_leading_zeros};
+ghost use Rattle.std.specs.Prelude.{◌≡◌, ◌/◌, ◌^◌, ◌<◌, ◌≤◌};
+ghost use Rattle.ground.specs.Refusals.{on_paper};
+ghost use Rattle.format.specs.Meaning.{Takes, float_value};
 ghost use Rattle.format.specs.Answers.{too_large};
 ghost use Rattle.format.specs.Promise.{Float16CodePromise, Float16CountPromise, Float8CodePromise, Float8CountPromise};
 ghost use Rattle.format.specs.Promise.{Int24CodePromise, Int24CountPromise};
@@ -34,60 +35,38 @@ const LAST24: u32 = 16777215;
 pub fn float16_code(count: u64) -> Result<u16, TooLarge>
     ensures { Float16CodePromise count result }
 {
-    if LIMIT16 <= count {
-        return Err(TooLarge);
-    }
-    let shift = halvings(51, count);
-    let code = shift * 4096 + halved(count, shift);
-    Ok(code as u16)
+    Ok(float_code::<12, { LIMIT16 }>(count)? as u16)
 }
 
 // The count that a 16-bit float means.
 pub fn float16_count(code: u16) -> u64
     ensures { Float16CountPromise code result }
 {
-    let whole = code as u64;
-    let exponent = whole / 4096;
-    let mantissa = whole % 4096;
-    if exponent == 0 {
-        return mantissa;
-    }
-    doubled(mantissa + 4096, exponent - 1)
+    float_count::<12>(u64::from(code))
 }
 
 // The 8-bit float of a count: the largest whose value is not above the count.
 pub fn float8_code(count: u64) -> Result<u8, TooLarge>
     ensures { Float8CodePromise count result }
 {
-    if LIMIT8 <= count {
-        return Err(TooLarge);
-    }
-    let shift = halvings(60, count);
-    let code = shift * 8 + halved(count, shift);
-    Ok(code as u8)
+    Ok(float_code::<3, { LIMIT8 }>(count)? as u8)
 }
 
 // The count that an 8-bit float means.
 pub fn float8_count(code: u8) -> u64
     ensures { Float8CountPromise code result }
 {
-    let whole = code as u64;
-    let exponent = whole / 8;
-    let mantissa = whole % 8;
-    if exponent == 0 {
-        return mantissa;
-    }
-    doubled(mantissa + 8, exponent - 1)
+    float_count::<3>(u64::from(code))
 }
 
 // The 24-bit integer of a count: the count itself.
 pub fn int24_code(count: u64) -> Result<u32, TooLarge>
     ensures { Int24CodePromise count result }
 {
-    if (LAST24 as u64) < count {
-        return Err(TooLarge);
+    match u32::try_from(count) {
+        Ok(integer) => int24_count(integer),
+        Err(_) => Err(TooLarge),
     }
-    Ok(count as u32)
 }
 
 // The count that a 24-bit integer means: the code itself.
@@ -100,30 +79,27 @@ pub fn int24_count(code: u32) -> Result<u32, TooLarge>
     Ok(code)
 }
 
-// How often a count is halved until a mantissa and its leading one hold it: `spare` is 63 less the mantissa's bits.
-fn halvings(spare: u64, count: u64) -> u64
-    requires { spare < 64 }
-    ensures { (result ≡ spare - count_leading_zeros 64 count) × (result < 64) }
+// The float of a count, with so many mantissa bits, below the format's limit: halved until mantissa and leading one hold it.
+fn float_code<const BITS: u64, const LIMIT: u64>(count: u64) -> Result<u64, TooLarge>
+    requires { (BITS ≤ 16) × (LIMIT ≤ 2 ^ 40) }
+    ensures { Takes (float_value BITS) LIMIT count (on_paper too_large result) }
 {
-    let zeros = u64::leading_zeros(count) as u64;
-    if spare <= zeros {
-        return 0;
+    if LIMIT <= count {
+        return Err(TooLarge);
     }
-    spare - zeros
+    let halvings = (63 - BITS).saturating_sub(u64::from(count.leading_zeros()));
+    Ok((halvings << BITS) + (count >> halvings))
 }
 
-// A count halved so often.
-fn halved(count: u64, times: u64) -> u64
-    requires { times < 64 }
-    ensures { result ≡ count / 2 ^ times }
+// The count that a float with so many mantissa bits means: the mantissa, or with its leading one doubled as often as the exponent says.
+fn float_count<const BITS: u64>(code: u64) -> u64
+    requires { (BITS ≤ 16) × (code / 2 ^ BITS < 32) }
+    ensures { result ≡ float_value BITS code }
 {
-    count >> times
-}
-
-// A mantissa with its leading one, doubled so often.
-fn doubled(mantissa: u64, times: u64) -> u64
-    requires { (mantissa < 2 ^ 13) × (times < 32) }
-    ensures { result ≡ mantissa * 2 ^ times }
-{
-    mantissa << times
+    let exponent = code >> BITS;
+    let mantissa = code % (1 << BITS);
+    if exponent == 0 {
+        return mantissa;
+    }
+    (mantissa + (1 << BITS)) << (exponent - 1)
 }

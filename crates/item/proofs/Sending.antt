@@ -1,15 +1,15 @@
 -- Laws that the proofs of items cite: a word's fields, and results put in their formats.
 -- Assumes nothing.
-use mathlib.Core.Path.{◌≡◌, refl, sym, ap, ◌∙◌, subst}
+use mathlib.Core.Path.{◌≡◌, refl, sym, ap, ◌∙◌}
 use mathlib.Core.Bool.{Bool, true, false, ◌&&◌}
 use mathlib.Core.List.{List}
-use Prim.Native.Nat.{ℕ, ◌+◌, ◌^◌, ◌≤◌}
+use Prim.Native.Nat.{ℕ, ◌+◌, ◌^◌}
 use native.Mathlib.Omega.{arith}
 use Rattle.std.specs.Prelude.{Result, Ok, Err}
 use lib.Dec.{eqb, leb, lit≤, lit<}
 use lib.IntN.{pos}
 use lib.ListN.{length}
-use borrow.Author.Tests.{le-leb, ne_eqb}
+use borrow.Author.Tests.{ne_eqb}
 use Rattle.ground.specs.Bits.{to_bits}
 use Rattle.ground.specs.Choice.{pick, pick_elim}
 use Rattle.ground.specs.Outcome.{Outcome, outcome_of, accept, refuse, onward_to}
@@ -20,7 +20,6 @@ use Rattle.code.specs.Answers.{packed_paper}
 use Rattle.code.specs.declared.NotPacked.{NotPacked}
 use Rattle.code.specs.declared.NotPacked.TheVariants as P
 use Rattle.code.specs.Promise.{PackPromise}
-use Rattle.pack.specs.Promise.{FieldPromise}
 use Rattle.format.specs.Answers.{too_large}
 use Rattle.format.specs.declared.TooLarge as format
 use Rattle.format.specs.Promise.{Float16CodePromise, Int24CodePromise}

@@ -31,7 +31,7 @@ pub fn log8_code(count: u64) -> Result<u8, TooLarge>
 pub fn log8_counts(code: u8) -> Option<(u64, u64)>
     ensures { Log8CountsPromise code result }
 {
-    let byte = code as u64;
+    let byte = u64::from(code);
     if byte == 0 {
         return Some((0, 0));
     }

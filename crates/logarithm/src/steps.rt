@@ -9,7 +9,7 @@ pub(crate) fn bits(count: u64) -> u64
     requires { (0 < count) × (count ≤ 2147483647) }
     ensures { Bits count result }
 {
-    64 - (u64::leading_zeros(count) as u64)
+    64 - u64::from(count.leading_zeros())
 }
 
 // A count doubled until its leading one stands at bit 31.
@@ -26,20 +26,12 @@ pub(crate) fn eighths(count: u64) -> u64
     ensures { Eighths 8 count result }
 {
     let mut reached = 0;
-    let mut eighth = 1;
-    while eighth < 8 {
-        reached = reached + reaches(eighth, count);
-        eighth += 1;
+    for eighth in 1..8 {
+        if root(eighth) <= count {
+            reached += 1;
+        }
     }
     reached
-}
-
-// 1 where a count lies so many eighths of a doubling above 2^31, else 0.
-fn reaches(eighth: u64, count: u64) -> u64
-    requires { eighth < 8 }
-    ensures { result ≡ pick (leb (2 ^ (256 + eighth)) (twice_to_eighth count)) 1 0 }
-{
-    if root(eighth) <= count { 1 } else { 0 }
 }
 
 // The first count that reaches a byte; of the byte past the last, the first count past the range.

@@ -3,13 +3,8 @@
 use mathlib.Core.Path.{sym, subst}
 use Prim.Native.Nat.{ℕ, ◌≤◌, ◌<◌}
 use borrow.Author.Rules.{rules}
-use Rattle.logarithm.specs.Meaning.{Gives}
-use Rattle.logarithm.specs.Logarithms.{nought_given}
 use Rattle.logarithm.specs.Eighths.{Eighths, bits_raised, bits_give}
 use Rattle.logarithm.proofs.log8_code.Goals as goal
-
-pub returns-then-count-eq0 : goal.returns-then-count-eq0
-returns-then-count-eq0 c = record { answer = subst (λ (n : ℕ). Gives 0 n) (sym c.if-count-eq0.true) nought_given.0.has }
 
 pub eighths-eighths-requires : goal.eighths-eighths-requires
 eighths-eighths-requires c =

@@ -1,7 +1,6 @@
 -- `item::formats::send_as` meets its contract: each comp has its format.
 -- Assumes nothing.
 use borrow.Author.Rules.{rules}
-use Rattle.std.proofs.lemmas.Result.{err_from_is_err_and}
 use Rattle.item.proofs.Sending.{format_put, format_large, format_rest, float_known, logarithm_known, integer_known}
 use Rattle.item.proofs.formats.send_as.Goals as goal
 

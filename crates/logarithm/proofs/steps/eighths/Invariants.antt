@@ -1,11 +1,7 @@
 -- `logarithm::steps::eighths` meets its contract. The loop's invariant: of the eighths looked at so far, those that are reached.
 -- Assumes nothing.
-use Prim.Native.Nat.{◌-◌, ◌≤◌}
 use Rattle.logarithm.specs.Eighths.{Eighths}
 use Rattle.logarithm.proofs.steps.eighths.Given as goal
 
 abbrev pub invariant-loop-eighth : goal.invariant-loop-eighth
-invariant-loop-eighth l = (l.eighth ≤ 8) × Eighths l.eighth l.count l.reached
-
-abbrev pub decreases-loop-eighth : goal.decreases-loop-eighth
-decreases-loop-eighth l = 8 - l.eighth
+invariant-loop-eighth l = Eighths l.eighth l.count l.reached

@@ -1,19 +1,13 @@
 -- `logarithm::steps::first` meets its contract: the first count of so many eighths, halved and rounded up.
 -- Assumes nothing.
 use mathlib.Core.Path.{◌≡◌, subst}
-use Prim.Native.Nat.{ℕ, ◌+◌, ◌-◌, ◌*◌, ◌/◌, ◌%◌, ◌^◌}
-use native.Mathlib.Nat.{div-le_self}
+use Prim.Native.Nat.{ℕ, ◌+◌, ◌-◌, ◌*◌, ◌/◌, ◌%◌}
 use native.Mathlib.Omega.{arith}
 use Rattle.logarithm.specs.Eighths.{First, first_some, first_halved}
 use Rattle.logarithm.proofs.steps.first.Goals as goal
 
 pub overflow_sub-before : goal.overflow_sub-before
 overflow_sub-before c = first_some c.root-before.ensures
-
-pub overflow_add-result : goal.overflow_add-result
-overflow_add-result c =
-    let root = c.root-before.result in
-    record { fits = omega (arith, first_some c.root-before.ensures, div-le_self (root - 1) (2 ^ (32 - c.args.code / 8))) }
 
 pub returns : goal.returns
 returns c =

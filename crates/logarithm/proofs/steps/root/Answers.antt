@@ -2,9 +2,8 @@
 -- Assumes nothing.
 use mathlib.Core.Path.{◌≡◌, refl}
 use mathlib.Core.Bool.{true}
-use Prim.Native.Nat.{ℕ, ◌+◌, zero-le}
-use native.Mathlib.Nat.{le_antisymm, le_of_suc-le-suc}
-use Rattle.ground.specs.Questions.{past}
+use Prim.Native.Nat.{ℕ, ◌+◌}
+use native.Mathlib.Omega.{arith}
 use Rattle.logarithm.specs.Meaning.{twice_to_eighth}
 use Rattle.logarithm.specs.Eighths.{First, is_first, first_computed}
 use Rattle.logarithm.proofs.steps.root.Goals as goal
@@ -43,8 +42,4 @@ returns-in-6 c = at 6 c.in-6.is refl
 
 pub returns-in_default : goal.returns-in_default
 unfolding twice_to_eighth
-returns-in_default c =
-    let r = c.in_default.in_default-own.rest in
-    let four = past (past (past (past zero-le r.0.0.0.0.0.0.1) r.0.0.0.0.0.1) r.0.0.0.0.1) r.0.0.0.1 in
-    let seven = past (past (past four r.0.0.1) r.0.1) r.1 in
-    at 7 (le_antisymm (le_of_suc-le-suc c.requires) seven) refl
+returns-in_default c = at 7 (omega arith) refl
