@@ -2,8 +2,9 @@
 ghost use Rattle.std.specs.Prelude.{◌≡◌, length};
 
 use crate::STANDARD_OUTPUT;
+use ground::Numbered;
 use histogram::STATE_WORDS;
-use window_ask::{AskAnswer, Window};
+use window_ask::{Answered, NotAsked, Window};
 
 // All the lines of histogram memory.
 pub fn run() {
@@ -57,17 +58,16 @@ fn three(memory: &mut [u32], state: &mut [u64]) {
 
 // Three increments at 0.
 fn increments(memory: &mut [u32], state: &[u64]) {
-    increment(memory, state, 0);
-    increment(memory, state, 0);
-    increment(memory, state, 0);
+    for _ in 0..3 {
+        increment(memory, state, 0);
+    }
 }
 
 // The asks 1, 1 again, 2 and 4.
 fn asks(memory: &mut [u32], state: &mut [u64], window: Window) {
-    ask(memory, state, 1, window);
-    ask(memory, state, 1, window);
-    ask(memory, state, 2, window);
-    ask(memory, state, 4, window);
+    for number in [1, 1, 2, 4] {
+        ask(memory, state, number, window);
+    }
 }
 
 // One increment at the last address, a flip, an ask of it, and an increment past it.
@@ -94,41 +94,33 @@ fn clearing(address: u32, xsize: u8) -> Window {
 
 // Opening; a line where it is refused.
 fn open(memory: &mut [u32], state: &mut [u64]) {
-    let answer = histogram::open(memory, state);
-    refusal(b"open", histogram::open_number(answer));
+    refusal(b"open", histogram::open(memory, state));
 }
 
 // An increment; a line where it is refused.
 fn increment(memory: &mut [u32], state: &[u64], address: u32) {
-    let answer = histogram::increment(memory, state, address);
-    refusal(b"increment", histogram::increment_number(answer));
+    refusal(b"increment", histogram::increment(memory, state, address));
 }
 
 // A flip; a line where it is refused.
 fn flip(memory: &[u32], state: &mut [u64]) {
-    let answer = histogram::flip(memory, state);
-    refusal(b"flip", histogram::flip_number(answer));
+    refusal(b"flip", histogram::flip(memory, state));
 }
 
 // An ask, and its line.
 fn ask(memory: &mut [u32], state: &mut [u64], number: u16, window: Window) {
     let answer = window_ask::ask(memory, state, number, window);
     word(b"ask ");
-    decimal(number as u64);
+    decimal(u64::from(number));
     asked(answer);
 }
 
 // How an ask's line ends.
-fn asked(answer: AskAnswer) {
-    let number = window_ask::ask_number(answer);
+fn asked(answer: Result<Answered, NotAsked>) {
     match answer {
-        AskAnswer::New { sum } => summed(b" new ", sum),
-        AskAnswer::Again { sum } => summed(b" again ", sum),
-        AskAnswer::WrongMemory => refused(number),
-        AskAnswer::WrongCell => refused(number),
-        AskAnswer::AboveFull => refused(number),
-        AskAnswer::OutOfTurn => refused(number),
-        AskAnswer::OtherAsk => refused(number),
+        Ok(Answered::New { sum }) => summed(b" new ", sum),
+        Ok(Answered::Again { sum }) => summed(b" again ", sum),
+        Err(why) => refused(why),
     }
 }
 
@@ -140,17 +132,17 @@ fn summed(how: &[u8], sum: u64) {
 }
 
 // The line of a call that is refused.
-fn refusal(call: &[u8], number: u8) {
-    if number != 0 {
+fn refusal<E: Numbered + Copy>(call: &[u8], answer: Result<(), E>) {
+    if let Err(why) = answer {
         word(call);
-        refused(number);
+        refused(why);
     }
 }
 
 // The end of a refused call's line.
-fn refused(number: u8) {
+fn refused<E: Numbered + Copy>(why: E) {
     word(b" refused ");
-    decimal(number as u64);
+    decimal(u64::from(why.number()));
     word(b"\n");
 }
 

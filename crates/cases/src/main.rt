@@ -24,6 +24,6 @@ fn checksums() {
 
 fn checksum(bytes: &[u8]) {
     io::write_all(STANDARD_OUTPUT, b"checksum ");
-    io::print_hex(STANDARD_OUTPUT, crc::checksum(bytes) as u64, 4);
+    io::print_hex(STANDARD_OUTPUT, u64::from(crc::checksum(bytes)), 4);
     io::write_all(STANDARD_OUTPUT, b"\n");
 }
