@@ -1,12 +1,12 @@
--- Laws that the proofs of items cite: a word's fields, and results put in their formats.
+-- Laws that sending cites: results put in their formats.
 -- Assumes nothing.
 use mathlib.Core.Path.{◌≡◌, refl, sym, ap, ◌∙◌}
-use mathlib.Core.Bool.{Bool, true, false, ◌&&◌}
+use mathlib.Core.Bool.{Bool, true, false}
 use mathlib.Core.List.{List}
 use Prim.Native.Nat.{ℕ, ◌+◌, ◌^◌}
 use native.Mathlib.Omega.{arith}
 use Rattle.std.specs.Prelude.{Result, Ok, Err}
-use lib.Dec.{eqb, leb, lit≤, lit<}
+use lib.Dec.{leb, lit≤, lit<}
 use lib.IntN.{pos}
 use lib.ListN.{length}
 use borrow.Author.Tests.{ne_eqb}
@@ -26,27 +26,11 @@ use Rattle.format.specs.Promise.{Float16CodePromise, Int24CodePromise}
 use Rattle.logarithm.specs.Promise.{Log8CodePromise}
 use Rattle.format.specs.Floats.{takes_means}
 use Rattle.logarithm.specs.Logarithms.{log8_means_lem}
-use Rattle.pages.specs.declared.Window.{Window}
-use Rattle.item.specs.Meaning.{field_of, window_of, plain_of, sends_of, comp_of, format_bits, send_means, format_means}
+use Rattle.item.specs.Meaning.{format_bits}
 use Rattle.item.specs.Answers.{sent_paper, sent_of}
-use Rattle.item.specs.Promise.{SendPromise}
 use Rattle.item.specs.Steps.{PlacePromise, FormatPromise}
 use Rattle.item.specs.declared.NotSent.{NotSent}
 use Rattle.item.specs.declared.NotSent.TheVariants.{TooLarge}
-
--- ---- the fields of a word
-
--- an item's window, of its fields
-pub window_is : (x address xsize ysize ystride : ℕ) (clear : Bool) → address ≡ (window_of x).address → xsize ≡ (window_of x).xsize → ysize ≡ (window_of x).ysize
-    → ystride ≡ (window_of x).ystride → clear ≡ (window_of x).clear
-    → ◌≡◌ {A = Window} (record { address = address; xsize = xsize; ysize = ysize; ystride = ystride; clear = clear }) (window_of x)
-window_is x address xsize ysize ystride clear a b c d e = rw (a, b, c, d, e)
-
--- three fields that are 0 together
-pub plain_is : (x sum res enc : ℕ) → sum ≡ field_of x 23 3 → res ≡ field_of x 29 3 → enc ≡ field_of x 26 3
-    → (eqb sum 0 && (eqb res 0 && eqb enc 0)) ≡ plain_of x
-unfolding plain_of
-plain_is x sum res enc a b c = rw (a, b, c)
 
 -- ---- what writing answered
 
@@ -126,23 +110,3 @@ logarithm_known r {log8} p = ap (mapped (to_bits 8)) (sym (log8_means_lem r (on_
 pub integer_known : (r : ℕ) {integer : Result ℕ format.TooLarge} → Int24CodePromise r integer → format_bits 2 r ≡ mapped (to_bits 24) (on_paper too_large integer)
 unfolding format_bits
 integer_known r p = ap (mapped (to_bits 24)) (sym p.answer)
-
--- ---- an item
-
--- an item that is sent
-pub send_is : (buffer after : List ℕ) (at x r : ℕ) (sends : Bool) (comp : ℕ) (s : Result ℕ NotSent) → sends ≡ sends_of x → sends ≡ true
-    → comp ≡ field_of x 18 2 → FormatPromise buffer at comp r s after → SendPromise buffer at x r s after
-unfolding send_means comp_of
-send_is buffer after at x r sends comp s e t c p =
-    record {
-      outcome =
-          p.outcome
-          ∙ ap (λ (n : ℕ). format_means buffer at n r) c
-          ∙ sym (ap (λ (b : Bool). pick b (format_means buffer at (comp_of x) r) (accept at buffer)) (sym e ∙ t));
-    }
-
--- an item that is not
-pub send_none : (buffer : List ℕ) (at x r : ℕ) (sends : Bool) → sends ≡ sends_of x → sends ≡ false → SendPromise buffer at x r (Ok at) buffer
-unfolding send_means
-send_none buffer at x r sends e t =
-    record { outcome = sym (ap (λ (b : Bool). pick b (format_means buffer at (comp_of x) r) (accept at buffer)) (sym e ∙ t)) }

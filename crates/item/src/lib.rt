@@ -54,6 +54,7 @@ impl From<NotPacked> for NotSent {
 }
 
 // The window that an item sums.
+#[tactic(auto, unfolding(crate::specs::Meaning::window_of))]
 pub fn window_of(item: u64) -> Window
     ensures { result ≡ window_of item }
 {
@@ -67,6 +68,7 @@ pub fn window_of(item: u64) -> Window
 }
 
 // Whether sum, res and enc are 0, without which no item is taken.
+#[tactic(auto, unfolding(crate::specs::Meaning::plain_of))]
 pub fn plain(item: u64) -> bool
     ensures { result ≡ plain_of item }
 {
@@ -77,6 +79,7 @@ pub fn plain(item: u64) -> bool
 }
 
 // Whether an item adds the previous item's result.
+#[tactic(auto, unfolding(crate::specs::Meaning::adds_of))]
 pub fn adds(item: u64) -> bool
     ensures { result ≡ adds_of item }
 {
@@ -84,6 +87,7 @@ pub fn adds(item: u64) -> bool
 }
 
 // Whether an item is sent.
+#[tactic(auto, unfolding(crate::specs::Meaning::sends_of))]
 pub fn sends(item: u64) -> bool
     ensures { result ≡ sends_of item }
 {
@@ -91,6 +95,7 @@ pub fn sends(item: u64) -> bool
 }
 
 // An item's result put into a buffer from a bit position on, in the item's format, where it is sent.
+#[tactic(auto, unfolding(crate::specs::Meaning::send_means, crate::specs::Meaning::comp_of))]
 pub fn send(buffer: &mut [u8], at: u64, item: u64, res: u64) -> Result<u64, NotSent>
     ensures { SendPromise buffer.old at item res result buffer.new }
 {
