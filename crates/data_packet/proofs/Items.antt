@@ -20,7 +20,7 @@ use Rattle.pages.specs.declared.Pass.{Pass}
 use Rattle.pages.specs.declared.Window.{Window}
 use Rattle.pages.specs.declared.WrongCell.{WrongCell}
 use Rattle.data_packet.specs.Marks.{pass_memory, touch, touch-append}
-use Rattle.data_packet.specs.Running.{Fair, Inside, cleared_by, cleared_of, cleared-append}
+use Rattle.data_packet.specs.Running.{Fair, cleared_by, cleared_of, cleared-append}
 
 -- ---- which items may be taken
 
@@ -37,11 +37,6 @@ fair_more o page table i (Ok x) h u e p k =
     rw (add-one, take-suc table i 0 h)
     (fair_append o page (take i table) (get_or table i 0) u (sym (p.answer ∙ ap (check_means o page) e)))
 fair_more o page table i (Err why) h u e p k = absurd (both_ways refl k)
-
--- the windows of the items end under N, those of the memory as it is now
-pub inside_now : (n i : ℕ) (table m : List ℕ) (w : Window) → Inside n table (length table) → i < length table → w ≡ window_of (get_or table i 0)
-    → length m ≡ n → last_of w < length m / 2
-inside_now n i table m w u h e l = rw (e, l) (u i h)
 
 -- ---- passes over windows
 

@@ -1,7 +1,7 @@
 -- Items tried one after the other: the trial in the code stands for the trial of the definitions.
 -- Assumes nothing.
-use mathlib.Core.Path.{◌≡◌, refl, ap, ap₂, sym, subst, ◌∙◌}
-use mathlib.Core.Bool.{Bool, true, ◌&&◌}
+use mathlib.Core.Path.{◌≡◌, ap, ap₂, sym, subst, ◌∙◌}
+use mathlib.Core.Bool.{Bool, ◌&&◌}
 use mathlib.Core.List.{List, [], ◌∷◌, ◌++◌, append_assoc, append-nil}
 use Prim.Native.Nat.{ℕ, ◌+◌, ◌*◌, ◌^◌, ◌≤◌, ◌<◌}
 use native.Mathlib.Numerals.{add-one}
@@ -19,14 +19,10 @@ use Rattle.item.specs.Filling.{Filled, filled_more, filled_stays}
 use Rattle.item.specs.Meaning.{adds_of, item_bits, window_of}
 use Rattle.item.specs.Promise.{SendPromise}
 use Rattle.item.specs.declared.NotSent.{NotSent}
-use Rattle.pages.specs.Meaning.{Walk, cells_of, last_of, walk_at}
-use Rattle.pages.specs.Passes.{pass_of}
-use Rattle.pages.specs.declared.Pass.{Pass}
-use Rattle.pages.specs.declared.Window.{Window}
+use Rattle.pages.specs.Meaning.{Walk}
 use Rattle.data_packet.specs.Meaning.{result_of}
 use Rattle.data_packet.specs.Running.{Tried, begun, bits_or, item_pass, try_append, try_item, try_items, yes}
-use Rattle.data_packet.specs.Settling.{trial_pass}
-use Rattle.data_packet.specs.Steps.{Traced, TryPromise, at_after, found_after, most_data, most_sum}
+use Rattle.data_packet.specs.Steps.{Traced, TryPromise, at_after, most_data, most_sum}
 use Rattle.data_packet.specs.declared.Found.{Found}
 
 -- what sending answered of an item's bits, right after those that are there
@@ -61,20 +57,6 @@ told {room} {l} {room'} {at} {x} {r} {s} p f here few small =
 -- the first byte has eight bits
 pub first_long : (room : List ℕ) → length room ≡ most_data → length (take 8 (bits_of room)) ≡ 8
 first_long room e = length-take-le 8 (bits_of room) (omega (arith, length-bits_of room))
-
--- before the first item
-pub traced_first : (m first room : List ℕ) → length room ≡ most_data → length first ≡ 8 → Filled room first
-    → Traced (begun m) first (record { previous = 0; total = 0; at = 8; fits = true }) m room
-traced_first m first room l e f =
-    record {
-      marked = refl;
-      result = refl;
-      total = refl;
-      fits = refl;
-      at = sym e ∙ ap length (sym (append-nil first));
-      long = l;
-      filled = subst (Filled room) (sym (append-nil first)) f;
-    }
 
 -- one item more, where there is room for the longest bits
 traced_step : (n : ℕ) (page : Bool) (t : Tried) (x : ℕ) {first m room m' room' : List ℕ} {f r : Found} → length m ≡ n → Traced t first f m room
@@ -123,38 +105,6 @@ pub at_most : (n : ℕ) (page : Bool) (m xs : List ℕ) {first m' room : List �
     → Traced (try_items n page (begun m) xs) first f m' room → f.at ≤ 8 + 29 * length xs
 at_most n page m xs {first} {m'} {room} {f} e tr =
     omega (arith, tr.at, length-append first (try_items n page (begun m) xs).run.bits, tried_few n page (begun m) xs)
-
--- the pass over an item's window is the definition's
-pub tried_pass : (page : Bool) (x : ℕ) (m after : List ℕ) (own : ℕ) (w : Window) (rule : Pass) → w ≡ window_of x → rule ≡ trial_pass w.clear
-    → walk_at after own ≡ pass_of rule (length m) page (walk_at m 0) (cells_of w) → walk_at after own ≡ item_pass (length m) page m x
-tried_pass page x m after own w rule e k f =
-    f ∙ ap (λ (q : Pass). pass_of q (length m) page (walk_at m 0) (cells_of w)) k
-    ∙ ap (λ (v : Window). pass_of (trial_pass v.clear) (length m) page (walk_at m 0) (cells_of v)) e
-
--- an item's window ends under N, by another name
-pub window_inside : (x : ℕ) {n : ℕ} {w : Window} → w ≡ window_of x → last_of (window_of x) < n → last_of w < n
-window_inside x {n} e h = subst (λ (v : Window). last_of v < n) (sym e) h
-
--- one item tried, from its parts
-pub try_made : (m : List ℕ) (page : Bool) (x : ℕ) (f : Found) (room : List ℕ) (r : Found) (m' room' : List ℕ) (own previous total : ℕ) (w : Window)
-    (rule : Pass) (s : Result ℕ NotSent)
-    → w ≡ window_of x → rule ≡ trial_pass w.clear → walk_at m' own ≡ pass_of rule (length m) page (walk_at m 0) (cells_of w) → own ≤ most_sum
-    → previous ≡ result_of x f.previous own → total ≡ f.total + pick w.clear own 0 → SendPromise room f.at x previous s room'
-    → r ≡ found_after f previous total (sent_paper s) → TryPromise m page x f room r m' room'
-try_made m page x f room r m' room' own previous total w rule s ew er passed small ep et sent found =
-    let e = tried_pass page x m m' own w rule ew er passed in
-    let sum : own ≡ (item_pass (length m) page m x).sum = ap (λ (y : Walk). y.sum) e in
-    let result = ep ∙ ap (result_of x f.previous) sum in
-    record {
-      left = ap (λ (y : Walk). y.memory) e;
-      small = subst (λ (n : ℕ). n ≤ most_sum) sum small;
-      answer = s;
-      sent = subst (λ (n : ℕ). SendPromise room f.at x n s room') result sent;
-      found =
-          found
-          ∙ ap₂ (λ (a b : ℕ). found_after f a b (sent_paper s)) result
-          (et ∙ ap₂ (λ (v : Window) (n : ℕ). f.total + pick v.clear n 0) ew sum);
-    }
 
 -- what the next item may find: sums of the items so far
 pub sums_more : {m : List ℕ} {page : Bool} {x : ℕ} {f r : Found} {room m' room' : List ℕ} (i : ℕ) → TryPromise m page x f room r m' room'
