@@ -2,15 +2,13 @@
 -- Assumes nothing.
 use mathlib.Core.Path.{◌≡◌, sym, ap, ap₂, ◌∙◌, subst}
 use mathlib.Core.List.{List}
-use Prim.Native.Nat.{ℕ, ◌+◌, ◌*◌, ◌-◌, ◌%◌, ◌^◌, ◌<◌, ◌≤◌}
-use native.Mathlib.Nat.{mod-eq_of_lt}
+use Prim.Native.Nat.{ℕ, ◌+◌, ◌*◌, ◌^◌, ◌<◌, ◌≤◌}
 use native.Mathlib.Numerals.{add-one}
 use native.Mathlib.Omega.{arith}
 use lib.ListN.{length, length-drop, take, drop, get_or}
 use lib.Seq.{get_or-drop, take-suc, length-take-le}
 use lib.Pow.{pow_mono}
-use Rattle.code.specs.Meaning.{bits_that_count, from_bits, filled}
-use Rattle.code.specs.Numbers.{shift_is}
+use Rattle.code.specs.Meaning.{bits_that_count, from_bits}
 use Rattle.code.specs.BitLists.{all_bits, all_bits-take, all_bits-drop, from_bits_lt}
 use Rattle.code.specs.Positions.{from_bits_snoc, all_bits-bits_that_count}
 
@@ -33,27 +31,12 @@ field_width l at i ok h =
 pub field_small : (l : List ℕ) (at i : ℕ) → all_bits l → at + i ≤ length l → i ≤ 16 → from_bits (take i (drop at l)) < 65536
 field_small l at i ok h few = omega (arith, field_width l at i ok h, pow_mono {i = i} {j = 16} few)
 
--- a field and what is filled in, as shifts give it
-pub fill_shifts : (left x : ℕ) → 0 < left → left < 32 → filled left x < 2 ^ 31
-    → x * 2 ^ left % 2 ^ 32 + (1 * 2 ^ (left - 1) % 2 ^ 32 - 1) ≡ filled left x
-fill_shifts left x a b h =
-    let p : x * 2 ^ left < 2 ^ 32 = omega arith in
-    ap₂ (λ (m n : ℕ). m + (n - 1)) (mod-eq_of_lt p) (shift_is (left - 1) 32 (omega arith))
-
--- nothing left out: the field itself
-pub fill_none : (left x : ℕ) → left ≡ 0 → x ≡ filled left x
-fill_none left x e = subst (λ (n : ℕ). x ≡ filled n x) (sym e) (omega arith)
-
 -- one turn of reading a field
 pub field_turn : (bytes : List ℕ) (at width i x b : ℕ) → i < width → at + width ≤ length (bits_that_count bytes) → width ≤ 16
     → x ≡ from_bits (take i (drop at (bits_that_count bytes))) → b ≡ get_or (bits_that_count bytes) (at + i) 0
-    → (i + 1 ≤ width) × (at + width ≤ length (bits_that_count bytes)) × (width ≤ 16)
-    × (x * 2 + b ≡ from_bits (take (i + 1) (drop at (bits_that_count bytes)))) × (x * 2 + b < 65536)
+    → (x * 2 + b ≡ from_bits (take (i + 1) (drop at (bits_that_count bytes)))) × (x * 2 + b < 65536)
 field_turn bytes at width i x b h fits few p q =
     let e = field_more (bits_that_count bytes) at i x b (omega arith) p q in (
-      omega arith,
-      fits,
-      few,
       e,
       subst (λ (n : ℕ). n < 65536) (sym e) (field_small (bits_that_count bytes) at (i + 1) (all_bits-bits_that_count bytes) (omega arith) (omega arith)),
     )

@@ -1,11 +1,10 @@
 -- What the parts of reading a code answer for: what was found, with the next position told by what is left.
 -- Assumes nothing.
-use Rattle.std.specs.Prelude.{◌≡◌, List, ℕ, zero, suc, ◌-◌, ◌<◌, ◌≤◌, length}
+use Rattle.std.specs.Prelude.{List, ℕ, zero, suc, ◌-◌, length}
 use Rattle.ground.specs.Paper.{Paper, accepted, refused, refused_with}
-use Rattle.code.specs.Meaning.{Parsed, found, ran_out, redundant_zero, run_too_long, ShapeValues, values_of, bits_that_count, greatest_place, width}
+use Rattle.code.specs.Meaning.{Parsed, found, ran_out, redundant_zero, run_too_long, ShapeValues, values_of, greatest_place, width}
 use Rattle.code.specs.Meaning.{led_then, after_run, after_sign, parse}
 use Rattle.code.specs.Missing.{behind_run, missing_after_sign, missing_computed}
-use Rattle.code.specs.Shapes.{Drop}
 
 -- the answer to what was found among so many bits, where so many are missing if they ran out
 abbrev pub rest_answer : ℕ → ℕ → ℕ → Parsed → Paper ShapeValues
@@ -34,19 +33,3 @@ led_answer d end s k l = rest_answer d end (width d k - length l) (led_then grea
 abbrev pub zero_answer : ℕ → ℕ → ℕ → Paper ShapeValues
 zero_answer zero s next = refused 10
 zero_answer (suc d) s next = accepted (record { sign = s; magnitude = 5; error = 4; next = next })
-
--- where a part of a code is read: at a position that is not past the end, with a known drop
-pub record Place (bytes : List ℕ) (at end d : ℕ) : Type 0 where
-  pub end_is : end ≡ length (bits_that_count bytes)
-  pub inside : at ≤ end
-  pub drop_is : Drop d
-
--- where the field under a leading one is read
-pub record LedPlace (bytes : List ℕ) (at end d s k w : ℕ) : Type 0 where
-  pub end_is : end ≡ length (bits_that_count bytes)
-  pub inside : at ≤ end
-  pub drop_is : Drop d
-  pub sign : s < 2
-  pub four : 4 ≤ k
-  pub top : k ≤ greatest_place
-  pub width_is : w ≡ width d k

@@ -1,6 +1,7 @@
 // Packed codes read: bits to a shape and to a number, at any bit position of lent bytes, with drop 0 or 3.
 #![tactic(auto)]
 
+mod cursor;
 mod read;
 
 ghost use Rattle.std.specs.Prelude.{◌≡◌, ◌≤◌};
@@ -8,6 +9,7 @@ ghost use Rattle.code.specs.Meaning.{signed, largest, past_end};
 ghost use Rattle.code.specs.Promise.{ShapePromise, UnpackPromise};
 
 use code::{Refusal, Shape, Unpacked};
+use cursor::Cursor;
 
 // The code at a bit position of bytes: its sign, its decoded magnitude, its error and the position after it.
 pub fn shape(bytes: &[u8], at: u64, drop: u8) -> Result<Shape, Refusal>
@@ -18,7 +20,12 @@ pub fn shape(bytes: &[u8], at: u64, drop: u8) -> Result<Shape, Refusal>
         if past_end(end, at) {
             return read::ran_out(0);
         }
-        read::code(bytes, at, end, drop)
+        read::code(Cursor {
+            bytes,
+            at,
+            end,
+            drop,
+        })
     } else {
         Err(Refusal::OutsideRule)
     }
@@ -39,11 +46,7 @@ pub fn unpack(bytes: &[u8], at: u64, drop: u8) -> Result<Unpacked, Refusal>
 fn past_end(end: u64, at: u64) -> bool
     ensures { result ≡ past_end end at }
 {
-    if end < at {
-        true
-    } else {
-        9223372036854775808 <= at
-    }
+    end < at || 9223372036854775808 <= at
 }
 
 // A magnitude, negated back where the sign is 1.
@@ -54,6 +57,6 @@ fn with_sign(sign: u32, magnitude: u32) -> i32
     if sign == 0 {
         magnitude as i32
     } else {
-        0 - magnitude as i32
+        -(magnitude as i32)
     }
 }

@@ -1,53 +1,37 @@
-// Reading a code bit by bit: each function answers for what follows one part of the code.
-ghost use Rattle.std.specs.Prelude.{◌≡◌, ◌+◌, ◌-◌, ◌*◌, ◌^◌, ◌<◌, ◌≤◌, length, get_or, take, drop as dropped, eqb};
+// Reading a code part by part: each function answers for what follows one part of the code.
+ghost use Rattle.std.specs.Prelude.{◌≡◌, ◌+◌, ◌^◌, ◌<◌, ◌≤◌, eqb};
 ghost use Rattle.ground.specs.Choice.{pick};
 ghost use Rattle.ground.specs.Paper.{refused_with};
-ghost use Rattle.code.specs.Meaning.{bits_that_count, from_bits, filled, greatest_place, longest_run};
+ghost use Rattle.code.specs.Meaning.{filled, greatest_place, longest_run, width as width_under};
 ghost use Rattle.code.specs.Missing.{behind_run};
 ghost use Rattle.code.specs.Shapes.{Drop};
 ghost use Rattle.code.specs.Answers.{shape_paper};
-ghost use Rattle.unpack.specs.Steps.{code_answer, sign_answer, run_answer, led_answer, zero_answer, Place, LedPlace};
+ghost use Rattle.unpack.specs.Cursors.{bits_left};
+ghost use Rattle.unpack.specs.Steps.{code_answer, sign_answer, run_answer, led_answer, zero_answer};
 
+use crate::cursor::Cursor;
 use code::{GREATEST_PLACE, LONGEST_RUN, Refusal, Shape};
 
-// The bit at a position that counts.
-fn bit(bytes: &[u8], at: u64) -> u8
-    requires { at < length (bits_that_count bytes.now) }
-    ensures { (result ≡ get_or (bits_that_count bytes.now) at 0) × (result < 2) }
+// The code at a place; at the end itself no bit is left.
+pub(crate) fn code(here: Cursor) -> Result<Shape, Refusal>
+    ensures { shape_paper result ≡ code_answer here.entry.drop here.entry.end (bits_left here.entry) }
 {
-    let i = (at / 8) as usize;
-    code::bit_of(bytes[i], (at % 8) as u8)
-}
-
-// The same bit, as a number to count with.
-fn bit_wide(bytes: &[u8], at: u64) -> u32
-    requires { at < length (bits_that_count bytes.now) }
-    ensures { (result ≡ get_or (bits_that_count bytes.now) at 0) × (result < 2) }
-{
-    bit(bytes, at) as u32
-}
-
-// The code at a position; at the end itself no bit is left.
-pub(crate) fn code(bytes: &[u8], at: u64, end: u64, drop: u8) -> Result<Shape, Refusal>
-    requires { Place bytes.now at end drop }
-    ensures { shape_paper result ≡ code_answer drop end (dropped at (bits_that_count bytes.now)) }
-{
-    if end <= at {
+    if here.left() == 0 {
         return ran_out(1);
     }
-    if bit(bytes, at) == 0 {
+    if here.bit() == 0 {
         return Ok(Shape {
             sign: 0,
             magnitude: 0,
-            error: where_dropped(drop, 3),
-            next: at + 1,
+            error: where_dropped(here.drop, 3),
+            next: here.at + 1,
         });
     }
-    if end <= at + 1 {
-        return ran_out(6 - code::wide(drop));
+    let signed = here.behind(1);
+    if signed.left() == 0 {
+        return ran_out(6 - code::wide(here.drop));
     }
-    let sign = bit_wide(bytes, at + 1);
-    after_sign(bytes, at + 2, end, drop, sign)
+    after_sign(signed.behind(1), signed.bit())
 }
 
 // Bits ran out: the refusal, with the least number of bits that are missing.
@@ -83,74 +67,64 @@ fn where_dropped(drop: u8, error: u32) -> u32
 }
 
 // What follows the sign: a run of ones and its zero, then the rest.
-fn after_sign(bytes: &[u8], at: u64, end: u64, drop: u8, sign: u32) -> Result<Shape, Refusal>
-    requires { Place bytes.now at end drop × (sign < 2) }
-    ensures { shape_paper result ≡ sign_answer drop end sign 0 (dropped at (bits_that_count bytes.now)) }
+fn after_sign(here: Cursor, sign: u32) -> Result<Shape, Refusal>
+    requires { sign < 2 }
+    ensures { shape_paper result ≡ sign_answer here.entry.drop here.entry.end sign 0 (bits_left here.entry) }
 {
-    let mut ones: u32 = 0;
-    let mut here = at;
-    while here < end {
-        if bit(bytes, here) == 0 {
-            return after_run(bytes, here + 1, end, drop, sign, ones);
+    for ones in 0..=LONGEST_RUN {
+        let passed = here.behind(ones);
+        if passed.left() == 0 {
+            return ran_out(1 + behind_run(here.drop, ones));
         }
-        if LONGEST_RUN <= ones {
-            return Err(Refusal::RunTooLong);
+        if passed.bit() == 0 {
+            return after_run(passed.behind(1), sign, ones);
         }
-        ones += 1;
-        here += 1;
     }
-    ran_out(1 + behind_run(drop, ones))
+    Err(Refusal::RunTooLong)
 }
 
 // What follows a run of ones and its zero.
-fn after_run(
-    bytes: &[u8],
-    at: u64,
-    end: u64,
-    drop: u8,
-    sign: u32,
-    ones: u32,
-) -> Result<Shape, Refusal>
-    requires { Place bytes.now at end drop × (sign < 2) × (ones ≤ longest_run greatest_place) }
-    ensures { shape_paper result ≡ run_answer drop end sign ones (dropped at (bits_that_count bytes.now)) }
+fn after_run(here: Cursor, sign: u32, ones: u32) -> Result<Shape, Refusal>
+    requires { (sign < 2) × (ones ≤ longest_run greatest_place) }
+    ensures { shape_paper result ≡ run_answer here.entry.drop here.entry.end sign ones (bits_left here.entry) }
 {
     if ones == 0 {
-        return small(bytes, at, end, drop, sign);
+        return small(here, sign);
     }
     if ones == 1 {
-        return led(bytes, at, end, drop, sign, 4, 3 - code::wide(drop));
+        return led(here, sign, 4, 3 - code::wide(here.drop));
     }
-    if end <= at {
-        return ran_out(behind_run(drop, ones));
+    if here.left() == 0 {
+        return ran_out(behind_run(here.drop, ones));
     }
-    let place = 2 * ones + 1 + bit_wide(bytes, at);
+    let place = 2 * ones + 1 + here.bit();
     if GREATEST_PLACE < place {
         return Err(Refusal::RunTooLong);
     }
-    let width = ones + 1 - code::wide(drop);
-    led(bytes, at + 1, end, drop, sign, place, width)
+    let width = ones + 1 - code::wide(here.drop);
+    led(here.behind(1), sign, place, width)
 }
 
 // A magnitude under 16: its field, drop 0's redundant zero and drop 3's 5.
-fn small(bytes: &[u8], at: u64, end: u64, drop: u8, sign: u32) -> Result<Shape, Refusal>
-    requires { Place bytes.now at end drop × (sign < 2) }
-    ensures { shape_paper result ≡ run_answer drop end sign 0 (dropped at (bits_that_count bytes.now)) }
+fn small(here: Cursor, sign: u32) -> Result<Shape, Refusal>
+    requires { sign < 2 }
+    ensures { shape_paper result ≡ run_answer here.entry.drop here.entry.end sign 0 (bits_left here.entry) }
 {
-    let left = code::wide(drop);
+    let left = code::wide(here.drop);
     let width = 4 - left;
-    let there = end - at;
-    if there < width as u64 {
+    let there = here.left();
+    if there < u64::from(width) {
         return ran_out(width - there as u32);
     }
-    let x = field(bytes, at, width);
-    let next = at + width as u64;
+    let x = here.field(width);
+    let next = here.at + u64::from(width);
     if x == 0 {
-        return small_zero(drop, sign, next);
+        return small_zero(here.drop, sign, next);
     }
     Ok(Shape {
         sign,
         magnitude: fill(x, left),
-        error: where_dropped(drop, 4),
+        error: where_dropped(here.drop, 4),
         next,
     })
 }
@@ -171,44 +145,22 @@ fn small_zero(drop: u8, sign: u32, next: u64) -> Result<Shape, Refusal>
 }
 
 // A magnitude with its leading one at a place: the field below it, of so many bits, and what is left out filled in.
-fn led(
-    bytes: &[u8],
-    at: u64,
-    end: u64,
-    drop: u8,
-    sign: u32,
-    place: u32,
-    width: u32,
-) -> Result<Shape, Refusal>
-    requires { LedPlace bytes.now at end drop sign place width }
-    ensures { shape_paper result ≡ led_answer drop end sign place (dropped at (bits_that_count bytes.now)) }
+fn led(here: Cursor, sign: u32, place: u32, width: u32) -> Result<Shape, Refusal>
+    requires { (sign < 2) × (4 ≤ place) × (place ≤ greatest_place) × (width ≡ width_under here.drop place) }
+    ensures { shape_paper result ≡ led_answer here.entry.drop here.entry.end sign place (bits_left here.entry) }
 {
-    let there = end - at;
-    if there < width as u64 {
+    let there = here.left();
+    if there < u64::from(width) {
         return ran_out(width - there as u32);
     }
-    let x = field(bytes, at, width);
+    let x = here.field(width);
     let left = place - width;
     Ok(Shape {
         sign,
         magnitude: code::power(place) + fill(x, left),
         error: code::power(left - 1),
-        next: at + width as u64,
+        next: here.at + u64::from(width),
     })
-}
-
-// The number of a field of so many bits.
-fn field(bytes: &[u8], at: u64, width: u32) -> u32
-    requires { (at + width ≤ length (bits_that_count bytes.now)) × (width ≤ 16) }
-    ensures { (result ≡ from_bits (take width (dropped at (bits_that_count bytes.now)))) × (result < 2 ^ width) }
-{
-    let mut x: u32 = 0;
-    let mut i: u32 = 0;
-    while i < width {
-        x = x * 2 + bit_wide(bytes, at + i as u64);
-        i += 1;
-    }
-    x
 }
 
 // A field with 0 for the first bit left out and 1 for the rest.
