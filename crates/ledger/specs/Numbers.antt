@@ -1,6 +1,6 @@
 -- The numbers of asks: "A new ask bears the number after the last accepted, 1 after opening, 0 after 65535".
 -- Assumes nothing.
-use Rattle.std.specs.Prelude.{Bool, true, false, ◌≡◌, refl, List, ℕ, ◌+◌, eqb, length, replicate}
+use Rattle.std.specs.Prelude.{Bool, true, false, ◌≡◌, refl, List, ℕ, ◌+◌, eqb, length, replicate, Result, Ok, Err}
 use Rattle.std.proofs.Common.{ap, ◌∙◌, arith}
 use Rattle.std.proofs.lemmas.List.{length-replicate}
 use borrow.Author.Tests.{eqb-true, ne_eqb}
@@ -10,7 +10,8 @@ use Rattle.ground.specs.Questions.{both_ways}
 use Rattle.pages.specs.declared.Window.{Window}
 use Rattle.state.specs.Turns.{next_of, same_asked, turn_of}
 use Rattle.state.specs.Words.{Asked, window, Kept, Last, Nothing, fresh_in, kept_in}
-use Rattle.state.specs.declared.Turn.TheVariants.{NewAsk, LastAsk, OtherAsk, OutOfTurn}
+use Rattle.state.specs.declared.NoTurn.{NoTurn}
+use Rattle.state.specs.declared.Turn.TheVariants.{NewAsk, LastAsk}
 use Rattle.state.specs.declared.Turn.{Turn}
 use Rattle.histogram.specs.Meaning.{Admits, CallOutcome, admission, done, new, open_means}
 use Rattle.histogram.specs.Outcomes.{is_opened}
@@ -35,28 +36,27 @@ pub after_others : (n : ℕ) → (n ≡ 65535 → ⊥) → next_of n ≡ n + 1
 after_others n h = rw (ne_eqb n 65535 h)
 
 -- whether a turn is a new ask's
-abbrev new_turn : Turn → Bool
-new_turn NewAsk = true
-new_turn (LastAsk sum) = false
-new_turn OtherAsk = false
-new_turn OutOfTurn = false
+abbrev new_turn : Result Turn NoTurn → Bool
+new_turn (Ok NewAsk) = true
+new_turn (Ok (LastAsk sum)) = false
+new_turn (Err why) = false
 
 -- a turn that is none is not
-not_new : {t : Turn} → new_turn t ≡ false → t ≡ NewAsk → ⊥
+not_new : {t : Result Turn NoTurn} → new_turn t ≡ false → t ≡ Ok NewAsk → ⊥
 not_new f e = both_ways (ap new_turn e) f
 
 -- a turn that is a new ask's bears the number whose turn it is
-pub new_number : (k : Kept) (number : ℕ) (a : Asked) → turn_of k number a ≡ NewAsk → number ≡ turn_number k
+pub new_number : (k : Kept) (number : ℕ) (a : Asked) → turn_of k number a ≡ Ok NewAsk → number ≡ turn_number k
 new_number Nothing number a =
-    pick_elim (λ (t : Turn). t ≡ NewAsk → number ≡ 1) (eqb number 1) _ _
+    pick_elim (λ (t : Result Turn NoTurn). t ≡ Ok NewAsk → number ≡ 1) (eqb number 1) _ _
     (λ h e. eqb-true _ _ h)
     (λ h e. absurd (not_new refl e))
 new_number (Last k b sum) number a =
-    pick_elim (λ (t : Turn). t ≡ NewAsk → number ≡ next_of k) (eqb number k) _ _
-    (λ h. pick_elim (λ (t : Turn). t ≡ NewAsk → number ≡ next_of k) (same_asked b a) _ _
+    pick_elim (λ (t : Result Turn NoTurn). t ≡ Ok NewAsk → number ≡ next_of k) (eqb number k) _ _
+    (λ h. pick_elim (λ (t : Result Turn NoTurn). t ≡ Ok NewAsk → number ≡ next_of k) (same_asked b a) _ _
     (λ g e. absurd (not_new refl e))
     (λ g e. absurd (not_new refl e)))
-    (λ h. pick_elim (λ (t : Turn). t ≡ NewAsk → number ≡ next_of k) (eqb number (next_of k)) _ _
+    (λ h. pick_elim (λ (t : Result Turn NoTurn). t ≡ Ok NewAsk → number ≡ next_of k) (eqb number (next_of k)) _ _
     (λ g e. eqb-true _ _ g)
     (λ g e. absurd (not_new refl e)))
 

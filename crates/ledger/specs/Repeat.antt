@@ -1,6 +1,6 @@
 -- Demand 3, second sentence: the last accepted ask, asked again, answers the same sum and changes nothing; a packet ask, the same total and bytes.
 -- Assumes nothing.
-use Rattle.std.specs.Prelude.{◌≡◌, refl, List, ◌∷◌, ◌++◌, ℕ, ◌+◌, ◌≤◌, ◌<◌, drop, length, take}
+use Rattle.std.specs.Prelude.{◌≡◌, refl, List, ◌∷◌, ◌++◌, ℕ, ◌+◌, ◌≤◌, ◌<◌, drop, length, take, Ok}
 use Rattle.std.proofs.Common.{ap, sym, subst, ◌∙◌, arith, eq-eqb, le-leb, take_at}
 use Rattle.std.proofs.lemmas.Bool.{lt-leb}
 use Rattle.ground.specs.Outcome.{accept, refuse}
@@ -42,7 +42,7 @@ kept_again l {number} {sum} {v} k = rw (k.admits, k.kept, eq-eqb number number r
 -- what an ask answered as new on a ledger tells: it was admitted, it was its turn, and it is what is kept
 pub record IsNew (l : Ledger) (number sum : ℕ) (a : Asked) (o : CallOutcome) : Type 0 where
   pub admits : Admits l.memory l.state
-  pub turn : turn_of (kept_in l.state) number a ≡ NewAsk
+  pub turn : turn_of (kept_in l.state) number a ≡ Ok NewAsk
   pub kept : kept_in o.leaves.state ≡ Last number a sum
 
 -- a sum answered again is not one answered as new
@@ -129,7 +129,7 @@ repeat_from_opening m w earlier later number sum v e n =
 -- what a packet ask answered as new tells: it was admitted, it was its turn, and it is kept with the bytes that it wrote
 pub record IsNewPacket (m w : List ℕ) (number : ℕ) (i : Inputs) (v : PacketValues) (o : PacketOutcome) : Type 0 where
   pub admits : Admits m w
-  pub turn : turn_of (kept_in w) number (Asked.packet i) ≡ NewAsk
+  pub turn : turn_of (kept_in w) number (Asked.packet i) ≡ Ok NewAsk
   pub kept : kept_in o.leaves.state ≡ Last number (Asked.packet i) v.total
   pub bytes : bytes_in o.leaves.state ≡ take v.written o.leaves.buffer
   pub count : length (take v.written o.leaves.buffer) ≡ v.written
