@@ -33,8 +33,8 @@ pub use Rattle.pages.specs.OneOutcome.{sized_one, clear_one, count_one, check_on
 pub use Rattle.item.specs.OneOutcome.{window_of_one, plain_one, adds_one, sends_one, send_one}
 pub use Rattle.data_packet.specs.OneOutcome.{build_one}
 -- histogram memory
-pub use Rattle.state.specs.OneOutcome.{fitting_one, turn_one, turn_by_one, next_one, next_number_one}
-pub use Rattle.histogram.specs.OneOutcome.{open_one, increment_one, increments_one, flip_one}
+pub use Rattle.state.specs.OneOutcome.{fitting_one, second_active_one, turn_one, turn_by_one, next_one, next_number_one}
+pub use Rattle.histogram.specs.OneOutcome.{admit_one, open_one, increment_one, increments_one, flip_one}
 pub use Rattle.histogram.specs.OneOutcome.{open_number_one, increment_number_one, increments_number_one, flip_number_one}
 pub use Rattle.window_ask.specs.OneOutcome.{ask_one, ask_number_one}
 -- packet asks

@@ -35,11 +35,11 @@ use Rattle.rate.specs.Meaning.{RateValues, ReadingValues, rate_means, reading_me
 use Rattle.format.specs.Meaning.{float_value, Takes, int24_means}
 use Rattle.logarithm.specs.Meaning.{Log8Takes}
 use Rattle.cadence.specs.Meaning.{Begins, Ends, seconds_means}
-use Rattle.pages.specs.declared.CountAnswer.{CountAnswer}
-use Rattle.pages.specs.declared.Taken as pages
+use Rattle.pages.specs.declared.NotCounted.{NotCounted}
+use Rattle.pages.specs.declared.NotTaken.{NotTaken}
 use Rattle.pages.specs.declared.Pass.{Pass}
-use Rattle.pages.specs.declared.Passed.{Passed}
 use Rattle.pages.specs.declared.Window.{Window}
+use Rattle.pages.specs.declared.WrongCell.{WrongCell}
 use Rattle.pages.specs.Answers.{count_paper, passed_paper, taken_paper}
 use Rattle.pages.specs.Outcomes.{count_stays, pass_stays, take_stays}
 use Rattle.pages.specs.Promise.{CountPromise, PassPromise, TakePromise}
@@ -85,17 +85,17 @@ pub send_refused : (buffer : List ℕ) (at x result : ℕ) (s : Sent) (after : L
 send_refused buffer at x result s after p = refused_left p.outcome (send_stays buffer at x result)
 
 -- counting on a page
-pub count_refused : (m : List ℕ) (page : Bool) (address : ℕ) (r : CountAnswer) (after : List ℕ) → CountPromise m page address r after
+pub count_refused : (m : List ℕ) (page : Bool) (address : ℕ) (r : Result (Unit {0}) NotCounted) (after : List ℕ) → CountPromise m page address r after
     → Refuses (number_of (count_paper r)) → after ≡ m
 count_refused m page address r after p = refused_left p.outcome (count_stays m page address)
 
 -- taking a window of a page
-pub take-refused : (m : List ℕ) (page : Bool) (w : Window) (r : pages.Taken) (after : List ℕ) → TakePromise m page w r after
+pub take-refused : (m : List ℕ) (page : Bool) (w : Window) (r : Result ℕ NotTaken) (after : List ℕ) → TakePromise m page w r after
     → Refuses (number_of (taken_paper r)) → after ≡ m
 take-refused m page w r after p = refused_left p.outcome (take_stays m page w)
 
 -- going over a window of a page
-pub go_over_refused : (m : List ℕ) (page : Bool) (rule : Pass) (w : Window) (r : Passed) (after : List ℕ) → PassPromise m page rule w r after
+pub go_over_refused : (m : List ℕ) (page : Bool) (rule : Pass) (w : Window) (r : Result ℕ WrongCell) (after : List ℕ) → PassPromise m page rule w r after
     → Refuses (number_of (passed_paper r)) → after ≡ m
 go_over_refused m page rule w r after p = refused_left p.outcome (pass_stays m page rule w)
 

@@ -1,4 +1,3 @@
 mod Doubles
-mod Leaving
 mod Parts
 mod Telling
