@@ -22,7 +22,7 @@ use Rattle.code.specs.Promise.{PackPromise}
 use Rattle.code.specs.Theorems.{pack_stays}
 use Rattle.pack.specs.OneOutcome.{field_stays}
 use Rattle.pack.specs.Promise.{FieldPromise}
-use Rattle.item.specs.declared.Sent.{Sent}
+use Rattle.item.specs.declared.NotSent.{NotSent}
 use Rattle.item.specs.Answers.{sent_paper}
 use Rattle.item.specs.Inputs.{Inputs}
 use Rattle.item.specs.OneOutcome.{send_stays}
@@ -80,7 +80,7 @@ pub field_refused : (buffer : List ℕ) (at x w : ℕ) (r : Result ℕ NotPacked
 field_refused buffer at x w r after p = refused_left p.outcome (field_stays buffer at x w)
 
 -- sending an item's result
-pub send_refused : (buffer : List ℕ) (at x result : ℕ) (s : Sent) (after : List ℕ) → SendPromise buffer at x result s after
+pub send_refused : (buffer : List ℕ) (at x result : ℕ) (s : Result ℕ NotSent) (after : List ℕ) → SendPromise buffer at x result s after
     → Refuses (number_of (sent_paper s)) → after ≡ buffer
 send_refused buffer at x result s after p = refused_left p.outcome (send_stays buffer at x result)
 
