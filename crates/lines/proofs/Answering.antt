@@ -3,54 +3,35 @@
 use mathlib.Core.Path.{◌≡◌, refl, sym, ap, ap₂, ◌∙◌, subst}
 use mathlib.Core.Bool.{Bool, true, false, not, ◌&&◌}
 use mathlib.Core.List.{List, [], ◌∷◌, ◌++◌}
-use Prim.Native.Nat.{ℕ, zero, suc, ◌+◌, ◌-◌, ◌<◌, ◌≤◌, zero-le}
+use Prim.Native.Nat.{ℕ, zero, suc, ◌+◌, ◌<◌, ◌≤◌, zero-le}
 use native.Mathlib.Numerals.{add-one}
 use native.Mathlib.Omega.{arith}
-use borrow.Author.Tests.{lt-leb, le-leb, lt-ltb, le-ltb, leb-true, ltb-true, ltb-false, eq-eqb, ne_eqb}
+use borrow.Author.Tests.{leb-true, ltb-false, eq-eqb}
 use lib.Dec.{leb, ltb}
-use lib.IntN.{ℤ, pos, neg_ℤ, ◌-ℤ◌, nat_abs}
+use lib.IntN.{ℤ, pos, neg_ℤ, nat_abs}
 use lib.ListN.{length, drop, get_or, drop_of_length-le}
 use lib.Seq.{drop-cons}
-use mir.Syntax.{w32}
-use mir.Val.{to_z, of_z}
 use Rattle.ground.specs.Choice.{pick}
 use Rattle.ground.specs.Questions.{both_hold}
 use Rattle.ground.specs.Putting.{put}
 use Rattle.code.specs.Meaning.{largest}
-use Rattle.code.specs.Numbers.{minus, plus}
 use Rattle.lines.specs.declared.Line.{Line}
-use Rattle.lines.specs.Meaning.{header, number_text, refused_text}
-use Rattle.lines.specs.Reading.{fresh, step, sound, known, answer_of}
+use Rattle.lines.specs.Meaning.{number_text, refused_text}
+use Rattle.lines.specs.Reading.{sound, known, answer_of}
 use Rattle.lines.specs.Meaning.{enough}
 use Rattle.lines.specs.Running.{Stand, next_line, says, waits, goes, ran_over}
-use Rattle.lines.specs.Promise.{HeaderPromise, AnswerPromise, RunPromise}
-use Rattle.lines.specs.Texts.{Put, put_nothing, put_then, put_fits}
+use Rattle.lines.specs.Promise.{RunPromise}
+use Rattle.lines.specs.Texts.{Put, put_then, put_fits}
 
 -- ---- what is known of a line
 
 module _ (s : Line) where
-  -- a line with no digit is not good
-  pub none_yet : s.other ≡ false → s.digits < 1 → false ≡ sound s
-  none_yet o h = rw (o, lt-leb 1 s.digits h)
-
-  -- a line with digits is good where its number is in range
-  pub in_range_lem : s.other ≡ false → 1 ≤ s.digits → leb s.value largest ≡ sound s
-  in_range_lem o h = rw (o, le-leb 1 s.digits h)
-
   -- a good line has a number in range
   pub sound_value : sound s ≡ true → s.value ≤ largest
   sound_value e =
       leb-true s.value largest
       (both_hold {a = leb 1 s.digits} {b = leb s.value largest} (both_hold {a = not s.other}
       {b = leb 1 s.digits && leb s.value largest} e).1).1
-
-  -- the number of a line with a minus
-  pub known_minus : s.minus ≡ true → s.value ≤ largest → to_z w32 (of_z w32 (pos 0 -ℤ to_z w32 s.value)) ≡ known s
-  known_minus e h = minus 1 s.value (λ z. omega arith) h ∙ ap (λ (b : Bool). pick b (neg_ℤ (pos s.value)) (pos s.value)) (sym e)
-
-  -- the number of a line without one
-  pub known_plus : s.minus ≡ false → s.value ≤ largest → to_z w32 s.value ≡ known s
-  known_plus e h = plus 0 s.value refl h ∙ ap (λ (b : Bool). pick b (neg_ℤ (pos s.value)) (pos s.value)) (sym e)
 
   -- a negated number keeps its magnitude
   abs_neg : (n : ℕ) → nat_abs (neg_ℤ (pos n)) ≡ n
@@ -79,38 +60,7 @@ module _ (s : Line) where
   unfolding answer_of
   answer_refused {room} {after} {at} {r} h p =
       subst (λ (l : List ℕ). Put room at l r after) (ap (λ (b : Bool). pick b (number_text (known s)) refused_text) (sym h)) p
-
   -- ---- what a byte does
-
-  -- a newline begins a fresh line
-  pub newline_next : {b : ℕ} {t : Line} → b ≡ 10 → t ≡ fresh → t ≡ next_line s b
-  newline_next {b} e f = f ∙ ap (λ (x : Bool). pick x fresh (step s b)) (sym (eq-eqb b 10 e))
-
-  -- any other byte is one byte more
-  pub other_next : {b : ℕ} {t : Line} → (b ≡ 10 → ⊥) → t ≡ step s b → t ≡ next_line s b
-  other_next {b} e f = f ∙ ap (λ (x : Bool). pick x fresh (step s b)) (sym (ne_eqb b 10 e))
-
-  -- a newline prints the answer
-  pub newline_says : {room after : List ℕ} {at r b : ℕ} → b ≡ 10 → Put room at (answer_of s) r after → Put room at (says s b) r after
-  newline_says {room} {after} {at} {r} {b} e p =
-      subst (λ (l : List ℕ). Put room at l r after) (ap (λ (x : Bool). pick x (answer_of s) []) (sym (eq-eqb b 10 e))) p
-
-  -- any other byte prints nothing
-  pub other_says : {room : List ℕ} {at b : ℕ} → (b ≡ 10 → ⊥) → Put room at (says s b) at room
-  other_says {room} {at} {b} e =
-      subst (λ (l : List ℕ). Put room at l at room) (ap (λ (x : Bool). pick x (answer_of s) []) (sym (ne_eqb b 10 e))) (put_nothing room at)
-
--- a newline may go where 80 bytes are left
-pub go_newline : (b at size : ℕ) → b ≡ 10 → at ≤ size → leb enough (size - at) ≡ not (waits size at b)
-go_newline b at size e h = rw (eq-eqb b 10 e) (go (ltb size (at + enough)) refl)
-  where
-    go : (t : Bool) → ltb size (at + enough) ≡ t → leb enough (size - at) ≡ not t
-    go true t = let k : size < at + enough = ltb-true size (at + enough) t in lt-leb enough (size - at) (omega arith)
-    go false t = let k : at + enough ≤ size = ltb-false size (at + enough) t in le-leb enough (size - at) (omega arith)
-
--- any other byte may go
-pub go_other : (b at size : ℕ) → (b ≡ 10 → ⊥) → true ≡ not (waits size at b)
-go_other b at size e = rw (ne_eqb b 10 e)
 
 -- a test that fails
 unless : (t : Bool) → true ≡ not t → t ≡ false
@@ -128,35 +78,6 @@ newline_room b at size p q e =
     ltb-false size (at + enough) (ap (λ (x : Bool). x && ltb size (at + enough)) (sym (eq-eqb b 10 e)) ∙ unless (waits size at b) (sym q ∙ p))
 
 -- ---- the front of a room
-
--- a room under 80 bytes gets no header
-pub header_short : {room : List ℕ} → length room < enough → HeaderPromise room 0 room
-header_short {room} h = record { answer = rw (lt-ltb (length room) enough h); memory = rw (lt-ltb (length room) enough h) }
-
--- a room of 80 bytes gets it
-pub header_put : {room after : List ℕ} {r : ℕ} → enough ≤ length room → Put room 0 header r after → HeaderPromise room r after
-header_put {room} {after} {r} h p =
-    record {
-      answer = p.place ∙ ap (λ (x : Bool). pick x 0 (length header)) (sym (le-ltb (length room) enough h));
-      memory = p.memory ∙ ap (λ (x : Bool). pick x room (put room 0 header)) (sym (le-ltb (length room) enough h));
-    }
-
--- a room under 80 bytes gets no answer
-pub answer_short : {line : Line} {room : List ℕ} → length room < enough → AnswerPromise line room 0 room
-answer_short {line} {room} h =
-    record {
-      answer = ap (λ (x : Bool). pick x 0 (length (answer_of line))) (sym (lt-ltb (length room) enough h));
-      memory = ap (λ (x : Bool). pick x room (put room 0 (answer_of line))) (sym (lt-ltb (length room) enough h));
-    }
-
--- a room of 80 bytes gets it
-pub answer_put : {line : Line} {room after : List ℕ} {r : ℕ} → enough ≤ length room → Put room 0 (answer_of line) r after → AnswerPromise line room r after
-answer_put {line} {room} {after} {r} h p =
-    let many : r ≡ length (answer_of line) = omega (arith, p.place) in
-    record {
-      answer = many ∙ ap (λ (x : Bool). pick x 0 (length (answer_of line))) (sym (le-ltb (length room) enough h));
-      memory = p.memory ∙ ap (λ (x : Bool). pick x room (put room 0 (answer_of line))) (sym (le-ltb (length room) enough h));
-    }
 
 -- ---- a run
 

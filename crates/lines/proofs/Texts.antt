@@ -4,16 +4,16 @@ use mathlib.Core.Path.{◌≡◌, refl, sym, ap, ap₂, ◌∙◌, subst}
 use mathlib.Core.Bool.{Bool, true, false}
 use mathlib.Core.List.{List, [], ◌∷◌, ◌++◌, map}
 use Prim.Native.Nat.{ℕ, zero, suc, ◌+◌, ◌-◌, ◌*◌, ◌/◌, ◌%◌, ◌^◌, ◌<◌, ◌≤◌}
-use native.Mathlib.Nat.{not-suc-le-zero, le_of_suc-le-suc, le_refl, pow-suc, pow-le-pow_right, zero-lt-suc, zero-add, add-zero}
+use native.Mathlib.Nat.{not-suc-le-zero, le_of_suc-le-suc, pow-suc, pow-le-pow_right, zero-lt-suc, zero-add}
 use native.Mathlib.Omega.{arith}
 use borrow.Author.Tests.{lt-ltb, le-ltb, eq-eqb, ne_eqb, leb-true, leb-false}
 use lib.Dec.{leb, eqb}
 use lib.IntN.{ℤ, nat_abs}
-use lib.ListN.{length, take, get_or, set, length-map}
+use lib.ListN.{length, take, get_or, length-map}
 use lib.Seq.{get_or-take, length-take-le}
 use Rattle.ground.specs.Bits.{bits_of}
 use Rattle.ground.specs.Choice.{pick}
-use Rattle.ground.specs.Putting.{Copied, copied_all, copied_none, copied_more}
+use Rattle.ground.specs.Putting.{Copied, copied_all}
 use Rattle.code.specs.BitLists.{length-bits_of}
 use Rattle.code.specs.Positions.{get_or-bits_of, length-bits_that_count, length-bytes_from}
 use Rattle.ground.specs.Outcome.{Outcome, outcome_of, accept}
@@ -58,14 +58,6 @@ pub put_all : {room₀ : List ℕ} {at : ℕ} {text room : List ℕ} {i : ℕ} �
     → Put room₀ at text (at + i) room
 put_all {room₀} {at} {text} {room} {i} p h =
     record { memory = copied_all p h; place = ap (λ (n : ℕ). at + n) (omega (arith, p.within)); long = p.long }
-
--- one byte is put
-pub put_one : (room : List ℕ) (at b : ℕ) → at < length room → Put room at (b ∷ []) (at + 1) (set room at b)
-put_one room at b h =
-    put_all {i = 1}
-    (subst (λ (n : ℕ). Copied room at (b ∷ []) (set room n b) 1) (add-zero at)
-    (copied_more b (omega arith) (copied_none room at (b ∷ [])) (zero-lt-suc 0) refl))
-    (le_refl 1)
 
 -- ---- a number in shortest decimal
 

@@ -11,13 +11,13 @@ use crate::{ENOUGH, Line, fresh_line, with_byte};
 use code::LARGEST;
 
 // What a line that is refused prints.
-const REFUSED: [u8; 10] = [114, 101, 102, 117, 115, 101, 100, 32, 56, 10];
+const REFUSED: &[u8; 10] = b"refused 8\n";
 
 // What is known after a byte: a newline begins a fresh line.
 pub(crate) fn next_line(line: Line, byte: u8) -> Line
     ensures { result ≡ next_line line byte }
 {
-    if byte == 10 {
+    if byte == b'\n' {
         fresh_line()
     } else {
         with_byte(line, byte)
@@ -29,11 +29,7 @@ pub(crate) fn may_go(byte: u8, put: usize, size: usize) -> bool
     requires { put ≤ size }
     ensures { result ≡ not (waits size put byte) }
 {
-    if byte == 10 {
-        ENOUGH <= size - put
-    } else {
-        true
-    }
+    byte != b'\n' || ENOUGH <= size - put
 }
 
 // Puts what a byte prints.
@@ -41,7 +37,7 @@ pub(crate) fn put_said(room: &mut [u8], at: usize, line: Line, byte: u8) -> usiz
     requires { (at ≤ length room.old) × (byte ≡ 10 → at + enough ≤ length room.old) }
     ensures { Put room.old at (says line byte) result room.new }
 {
-    if byte == 10 {
+    if byte == b'\n' {
         put_line(room, at, line)
     } else {
         at
@@ -56,7 +52,7 @@ pub(crate) fn put_line(room: &mut [u8], at: usize, line: Line) -> usize
     if is_sound(line) {
         put_number(room, at, number_of(line))
     } else {
-        put_text(room, at, &REFUSED)
+        put_text(room, at, REFUSED)
     }
 }
 
@@ -64,14 +60,7 @@ pub(crate) fn put_line(room: &mut [u8], at: usize, line: Line) -> usize
 fn is_sound(line: Line) -> bool
     ensures { result ≡ sound line }
 {
-    let other = line.other;
-    if other {
-        return false;
-    }
-    if line.digits < 1 {
-        return false;
-    }
-    line.value <= LARGEST
+    !line.other && 0 < line.digits && line.value <= LARGEST
 }
 
 // The number that is known of a line.
@@ -79,9 +68,8 @@ fn number_of(line: Line) -> i32
     requires { line.value ≤ largest }
     ensures { result ≡ known line }
 {
-    let minus = line.minus;
-    if minus {
-        0 - line.value as i32
+    if line.minus {
+        -(line.value as i32)
     } else {
         line.value as i32
     }

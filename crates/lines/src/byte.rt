@@ -13,10 +13,8 @@ pub(crate) fn digit_taken(line: Line, byte: u8) -> Line
     } else {
         Line {
             begun: true,
-            minus: line.minus,
-            digits: line.digits,
-            value: line.value,
             other: true,
+            ..line
         }
     }
 }
@@ -25,20 +23,7 @@ pub(crate) fn digit_taken(line: Line, byte: u8) -> Line
 fn one_more(line: Line, byte: u8) -> bool
     ensures { result ≡ one_more line byte }
 {
-    let other = line.other;
-    if other {
-        return false;
-    }
-    if byte < 48 {
-        return false;
-    }
-    if 57 < byte {
-        return false;
-    }
-    if 8 <= line.digits {
-        return false;
-    }
-    line.value < 10000000
+    !line.other && byte.is_ascii_digit() && line.digits < 8 && line.value < 10000000
 }
 
 // The line with one more digit.
@@ -48,9 +33,9 @@ fn with_digit(line: Line, byte: u8) -> Line
 {
     Line {
         begun: true,
-        minus: line.minus,
         digits: line.digits + 1,
-        value: line.value * 10 + (byte - 48) as u32,
+        value: line.value * 10 + u32::from(byte - b'0'),
         other: false,
+        ..line
     }
 }

@@ -15,9 +15,7 @@ use text::put_text;
 pub const ENOUGH: usize = 80;
 
 // The program's header.
-const HEADER: [u8; 18] = [
-    118, 97, 108, 117, 101, 32, 100, 114, 111, 112, 48, 32, 100, 114, 111, 112, 51, 10,
-];
+const HEADER: &[u8; 18] = b"value drop0 drop3\n";
 
 // What is known of an unfinished line: whether it has any bytes, begins with a minus, how many digits it has and what they
 // mean, and whether it is any other line.
@@ -47,17 +45,11 @@ pub fn fresh_line() -> Line
 pub fn with_byte(line: Line, byte: u8) -> Line
     ensures { WithBytePromise line byte result }
 {
-    let begun = line.begun;
-    if begun {
-        return digit_taken(line, byte);
-    }
-    if byte == 45 {
+    if !line.begun && byte == b'-' {
         Line {
             begun: true,
             minus: true,
-            digits: line.digits,
-            value: line.value,
-            other: line.other,
+            ..line
         }
     } else {
         digit_taken(line, byte)
@@ -71,7 +63,7 @@ pub fn put_header(room: &mut [u8]) -> usize
     if room.len() < ENOUGH {
         0
     } else {
-        put_text(room, 0, &HEADER)
+        put_text(room, 0, HEADER)
     }
 }
 
@@ -100,17 +92,21 @@ pub fn run(line: Line, input: &[u8], room: &mut [u8]) -> Ran
     ensures { RunPromise line input.now room.old result room.new }
 {
     let mut current = line;
-    let mut used = 0;
     let mut put = 0;
-    while used < input.len() && may_go(input[used], put, room.len()) {
-        let byte = input[used];
-        put = put_said(room, put, current, byte);
-        current = next_line(current, byte);
-        used += 1;
+    for (used, byte) in input.iter().enumerate() {
+        if !may_go(*byte, put, room.len()) {
+            return Ran {
+                line: current,
+                used,
+                put,
+            };
+        }
+        put = put_said(room, put, current, *byte);
+        current = next_line(current, *byte);
     }
     Ran {
         line: current,
-        used,
+        used: input.len(),
         put,
     }
 }

@@ -14,7 +14,7 @@ pub(crate) fn put_number(room: &mut [u8], at: usize, v: i32) -> usize
     let value = put_value(room, at, v);
     let first = put_spaced(room, value, v, 0);
     let second = put_spaced(room, first, v, 3);
-    put_byte(room, second, 10)
+    put_byte(room, second, b'\n')
 }
 
 // Puts a value in shortest decimal, with its minus.
@@ -23,7 +23,7 @@ fn put_value(room: &mut [u8], at: usize, v: i32) -> usize
     ensures { (Put room.old at (value_text v) result room.new) × (result ≤ at + 9) }
 {
     if code::sign(v) == 1 {
-        let after = put_byte(room, at, 45);
+        let after = put_byte(room, at, b'-');
         put_decimal(room, after, code::magnitude(v))
     } else {
         put_decimal(room, at, code::magnitude(v))
@@ -35,7 +35,7 @@ fn put_spaced(room: &mut [u8], at: usize, v: i32, drop: u8) -> usize
     requires { (at + 33 ≤ length room.old) × (nat_abs v ≤ largest) × Drop drop }
     ensures { (Put room.old at (32 ∷ code_text drop v) result room.new) × (result ≤ at + 1 + longest_code greatest_place) }
 {
-    let after = put_byte(room, at, 32);
+    let after = put_byte(room, at, b' ');
     put_code(room, after, v, drop)
 }
 
@@ -53,12 +53,9 @@ pub(crate) fn put_text(room: &mut [u8], at: usize, text: &[u8]) -> usize
     requires { at + length text.now ≤ length room.old }
     ensures { Put room.old at text.now result room.new }
 {
-    let mut i = 0;
-    while i < text.len() {
-        room[at + i] = text[i];
-        i += 1;
-    }
-    at + i
+    let end = at + text.len();
+    room[at..end].copy_from_slice(text);
+    end
 }
 
 // Puts a number of at most eight digits in shortest decimal.
@@ -67,7 +64,7 @@ fn put_decimal(room: &mut [u8], at: usize, n: u32) -> usize
     ensures { Put room.old at (shortest 8 n) result room.new }
 {
     let mut text = [0u8; 20];
-    let count = io::decimal(n as u64, &mut text);
+    let count = io::decimal(u64::from(n), &mut text);
     put_text(room, at, &text[..count])
 }
 
@@ -86,10 +83,9 @@ fn put_bits(room: &mut [u8], at: usize, bytes: &[u8], count: u64) -> usize
     requires { (at + count ≤ length room.old) × (count ≤ 32) × (length bytes.now ≡ 4) }
     ensures { Put room.old at (map (λ b. 48 + b) (take count (bits_of bytes.now))) result room.new }
 {
-    let mut i: usize = 0;
-    while (i as u64) < count {
-        room[at + i] = 48 + code::bit_of(bytes[i / 8], (i % 8) as u8);
-        i += 1;
+    let count = count as usize;
+    for i in 0..count {
+        room[at + i] = b'0' + code::bit_of(bytes[i / 8], (i % 8) as u8);
     }
-    at + i
+    at + count
 }

@@ -5,7 +5,7 @@
 
 ghost use Rattle.std.specs.Prelude.{◌≡◌, ◌+◌, ◌≤◌, length};
 ghost use Rattle.lines.specs.Meaning.{enough};
-ghost use Rattle.printing.specs.Promise.{PrintHeaderPromise, PrintLastPromise, PrintPiecePromise, capped};
+ghost use Rattle.printing.specs.Promise.{PrintHeaderPromise, PrintLastPromise, PrintPiecePromise};
 
 use lines::{Line, put_answer, put_header, run};
 
@@ -48,8 +48,7 @@ pub fn print_piece(line: Line, piece: &[u8]) -> Printed
 pub fn print_last(line: Line) -> usize
     ensures { PrintLastPromise line result }
 {
-    let begun = line.begun;
-    if begun {
+    if line.begun {
         let mut room = io::large_buffer();
         let said = put_answer(line, &mut room);
         handed(true, &room, said).put
@@ -65,12 +64,12 @@ fn print_runs(line: Line, piece: &[u8], room: &mut [u8]) -> Printed
 {
     let mut current = line;
     let mut at = 0;
-    let mut put = 0;
+    let mut put = 0usize;
     let mut written = true;
     while at < piece.len() {
         let ran = run(current, &piece[at..], room);
         let given = handed(written, room, ran.put);
-        put = with_more(put, given.put);
+        put = put.saturating_add(given.put);
         current = ran.line;
         written = given.written;
         at += ran.used;
@@ -79,17 +78,6 @@ fn print_runs(line: Line, piece: &[u8], room: &mut [u8]) -> Printed
         line: current,
         put,
         written,
-    }
-}
-
-// A count with so many more, up to the greatest number.
-fn with_more(count: usize, more: usize) -> usize
-    ensures { result ≡ capped (count + more) }
-{
-    if usize::MAX - count < more {
-        usize::MAX
-    } else {
-        count + more
     }
 }
 

@@ -8,5 +8,5 @@ use Rattle.printing.proofs.print_last.Goals as goal
 pub handed-requires : goal.handed-requires
 handed-requires c = let inside = answer_inside c.put_answer-said.ensures in search rules
 
-pub returns-then-begun : goal.returns-then-begun
-returns-then-begun c = last_all c.put_answer-said.ensures (search rules) (search rules) c.handed.ensures
+pub returns-then-line : goal.returns-then-line
+returns-then-line c = last_all c.put_answer-said.ensures (search rules) (search rules) c.handed.ensures

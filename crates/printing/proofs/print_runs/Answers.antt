@@ -26,7 +26,7 @@ loop-at-preserved c =
       stays piece c.loop-at.at c.run-ran.ensures c.loop-at-test.true,
       search rules,
       comes_to piece c.loop-at.at c.run-ran.ensures c.loop-at-test.true c.loop-at.invariant.2,
-      counts_to piece c.loop-at.at c.run-ran.ensures c.loop-at-test.true c.loop-at.put _ c.with_more-put.ensures
+      counts_to piece c.loop-at.at c.run-ran.ensures c.loop-at-test.true c.loop-at.put _ c.saturating_add-put.ensures
           c.handed-given.ensures c.loop-at.invariant.3,
       search rules,
     )

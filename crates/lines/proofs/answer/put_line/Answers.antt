@@ -4,21 +4,9 @@ use mir.Syntax.{w32}
 use mir.ValLaws.{to_z-of_z}
 use mathlib.Core.Path.{sym, ◌∙◌}
 use mir.Val.{SFits}
-use Rattle.lines.proofs.Answering.{sound_value, known_small, answer_good, answer_refused}
+use Rattle.lines.proofs.Answering.{answer_good, answer_refused}
 use borrow.Author.Rules.{rules}
 use Rattle.lines.proofs.answer.put_line.Goals as goal
-
-pub number_of-requires : goal.number_of-requires
-number_of-requires c =
-    sound_value c.args.line (sym c.is_sound.ensures ∙ c.if-is_sound.true)
-
-pub put_number-requires : goal.put_number-requires
-put_number-requires c =
-    let ok : SFits w32 c.number_of.result = search rules in (
-      c.requires,
-      known_small c.args.line (to_z-of_z w32 c.number_of.result ok ∙ c.number_of.ensures)
-          (sym c.is_sound.ensures ∙ c.if-is_sound.true),
-    )
 
 pub returns-then-is_sound : goal.returns-then-is_sound
 returns-then-is_sound c =

@@ -32,19 +32,6 @@ put_spaced-second-requires c = (
   search (none, three),
 )
 
-pub put_byte-requires : goal.put_byte-requires
-put_byte-requires c =
-    omega (
-      arith,
-      c.put_value-value.ensures.1,
-      c.put_value-value.ensures.0.long,
-      c.put_spaced-first.ensures.1,
-      c.put_spaced-first.ensures.0.long,
-      c.put_spaced-second.ensures.1,
-      c.put_spaced-second.ensures.0.long,
-      c.requires.0,
-    )
-
 pub returns : goal.returns
 returns c =
     number_put _ c.args.v (to_z-of_z w32 c.args.v c.ranges.v) (omega (arith, c.requires.0)) c.put_value-value.ensures.0

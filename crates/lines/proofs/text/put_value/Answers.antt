@@ -4,25 +4,7 @@ use mir.Syntax.{w32}
 use mir.ValLaws.{to_z-of_z}
 use native.Mathlib.Omega.{arith}
 use Rattle.lines.proofs.Texts.{value_minus, value_plus}
-use Rattle.lines.proofs.Texts.{few_digits}
 use Rattle.lines.proofs.text.put_value.Goals as goal
-
-pub put_decimal-requires : goal.put_decimal-requires
-put_decimal-requires c = (
-  omega (
-    arith,
-    c.put_byte-after.ensures.1,
-    c.put_byte-after.ensures.0.long,
-    c.requires.0,
-  ),
-  few_digits _ c.args.v (to_z-of_z w32 c.args.v c.ranges.v) c.magnitude.ensures c.requires.1,
-)
-
-pub put_decimal-requires-else-sign-eq1 : goal.put_decimal-requires-else-sign-eq1
-put_decimal-requires-else-sign-eq1 c = (
-  omega (arith, c.requires.0),
-  few_digits _ c.args.v (to_z-of_z w32 c.args.v c.ranges.v) c.magnitude-else-sign-eq1.ensures c.requires.1,
-)
 
 pub returns-then-sign-eq1 : goal.returns-then-sign-eq1
 returns-then-sign-eq1 c =
