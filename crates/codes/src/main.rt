@@ -15,19 +15,19 @@ fn main(rt: HostRuntime) {
 }
 
 // Prints the answer of every line as it is entered, and at the end of the input that of a last line; it stops where standard
-// output takes no more. A proved loop has to end: it counts its turns down, from a number that no run uses up.
+// output takes no more. A proved loop has to end: it has more turns than any run takes.
 fn print_lines(rt: &HostRuntime, input: &mut [u8]) {
     let mut line = lines::fresh_line();
-    let mut turns = u64::MAX;
-    let mut got = read(rt, input);
-    while turns > 0 && got > 0 {
+    for _ in 0..u64::MAX {
+        let got = read(rt, input);
+        if got == 0 {
+            break;
+        }
         let printed = printing::print_piece(line, &input[..got]);
         if !printed.written {
             return;
         }
         line = printed.line;
-        got = read(rt, input);
-        turns -= 1;
     }
     printing::print_last(line);
 }

@@ -11,12 +11,13 @@ pub fn read(bytes: &[u8], at: u64, drop: u8) {
 pub fn run(bytes: &[u8], at: u64, drop: u8) {
     let mut from = at;
     let mut to = told(reader::read_at(bytes, at, drop), at);
-    let mut turns = u64::MAX;
-    while turns > 0 && from < to {
+    for _ in 0..u64::MAX {
+        if to <= from {
+            return;
+        }
         let next = told(reader::read_moved(bytes, from, to, drop), to);
         from = to;
         to = next;
-        turns -= 1;
     }
 }
 

@@ -13,11 +13,12 @@ fn main() {
     serve(&mut room);
 }
 
-// Answers every record. A proved loop has to end: it counts its turns down, from a number that no run uses up.
+// Answers every record. A proved loop has to end: it has more turns than any run takes.
 fn serve(room: &mut [u8]) {
-    let mut turns = u64::MAX;
-    while turns > 0 && one(room) {
-        turns -= 1;
+    for _ in 0..u64::MAX {
+        if !one(room) {
+            return;
+        }
     }
 }
 
@@ -27,7 +28,7 @@ fn one(room: &mut [u8]) -> bool {
     if io::read_full(STANDARD_INPUT, &mut head) < 11 {
         return false;
     }
-    let size = wide(head[2]) as usize;
+    let size = usize::from(head[2]);
     if room.len() < size {
         return false;
     }
@@ -49,16 +50,9 @@ fn answer(head: &[u8; 11], bytes: &[u8]) {
 
 // The bit position, most significant byte first.
 fn position(head: &[u8; 11]) -> u64 {
-    let mut at: u64 = 0;
-    let mut i = 3;
-    while i < 11 {
-        at = (at << 8) | wide(head[i]);
-        i += 1;
+    let mut at = 0;
+    for byte in &head[3..] {
+        at = (at << 8) | u64::from(*byte);
     }
     at
-}
-
-// A byte as a number.
-fn wide(byte: u8) -> u64 {
-    byte as u64
 }

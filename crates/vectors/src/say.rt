@@ -20,7 +20,7 @@ pub fn signed(v: i32) {
     if code::sign(v) == 1 {
         io::write_all(STANDARD_OUTPUT, b"-");
     }
-    first(code::magnitude(v) as u64);
+    first(u64::from(code::magnitude(v)));
 }
 
 // The end of a line.

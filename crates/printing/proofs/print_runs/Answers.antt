@@ -3,11 +3,7 @@
 -- Assumes nothing.
 use Rattle.printing.proofs.Pieces.{stays, gets_on, comes_to, counts_to, all_taken}
 use borrow.Author.Rules.{rules}
-use Rattle.lines.specs.Moving.{run_put}
 use Rattle.printing.proofs.print_runs.Goals as goal
-
-pub handed-given-requires : goal.handed-given-requires
-handed-given-requires c = let inside = run_put c.run-ran.ensures in search rules
 
 pub overflow_add-at : goal.overflow_add-at
 overflow_add-at c =
@@ -30,9 +26,6 @@ loop-at-preserved c =
           c.handed-given.ensures c.loop-at.invariant.3,
       search rules,
     )
-
-pub shape_of-room : goal.shape_of-room
-shape_of-room c = c.loop-at.invariant.1
 
 pub returns : goal.returns
 returns c =
