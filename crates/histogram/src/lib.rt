@@ -7,7 +7,7 @@ ghost use Rattle.state.specs.Words.{fresh_in, state_words};
 ghost use Rattle.histogram.specs.Meaning.{feed_of};
 ghost use Rattle.histogram.specs.Answers.{fed_of, not_incremented};
 ghost use Rattle.histogram.specs.Promise.{AdmitPromise, OpenPromise, IncrementPromise, IncrementsPromise, FlipPromise};
-ghost use Rattle.histogram.specs.declared.NotIncremented.TheVariants as not;
+ghost use Rattle.histogram.specs.declared.NotIncremented.TheVariants as why_not;
 
 use ground::Numbered;
 pub use pages::FULL;
@@ -41,7 +41,7 @@ impl Numbered for NotIncremented {
 }
 
 impl From<WrongMemory> for NotIncremented {
-    ghost from_gives = { λ why e. e ≡ not.Memory why };
+    ghost from_gives = { λ why e. e ≡ why_not.Memory why };
 
     fn from(why: WrongMemory) -> NotIncremented {
         NotIncremented::Memory(why)
@@ -49,7 +49,7 @@ impl From<WrongMemory> for NotIncremented {
 }
 
 impl From<NotCounted> for NotIncremented {
-    ghost from_gives = { λ why e. e ≡ not.Count why };
+    ghost from_gives = { λ why e. e ≡ why_not.Count why };
 
     fn from(why: NotCounted) -> NotIncremented {
         NotIncremented::Count(why)

@@ -8,7 +8,7 @@ ghost use Rattle.state.specs.Words.{state_words};
 ghost use Rattle.data_packet.specs.Answers.{inputs_of};
 ghost use Rattle.packet_ask.specs.Answers.{not_asked};
 ghost use Rattle.packet_ask.specs.Promise.{AgainPromise, NewPacketPromise, PacketPromise};
-ghost use Rattle.packet_ask.specs.declared.NotAsked.TheVariants as not;
+ghost use Rattle.packet_ask.specs.declared.NotAsked.TheVariants as why_not;
 
 pub use data_packet::Inputs;
 use data_packet::{NotBuilt, Packet, build};
@@ -45,7 +45,7 @@ impl Numbered for NotAsked {
 }
 
 impl From<WrongMemory> for NotAsked {
-    ghost from_gives = { λ why e. e ≡ not.Memory why };
+    ghost from_gives = { λ why e. e ≡ why_not.Memory why };
 
     fn from(why: WrongMemory) -> NotAsked {
         NotAsked::Memory(why)
@@ -53,7 +53,7 @@ impl From<WrongMemory> for NotAsked {
 }
 
 impl From<NoTurn> for NotAsked {
-    ghost from_gives = { λ why e. e ≡ not.Turn why };
+    ghost from_gives = { λ why e. e ≡ why_not.Turn why };
 
     fn from(why: NoTurn) -> NotAsked {
         NotAsked::Turn(why)
@@ -61,7 +61,7 @@ impl From<NoTurn> for NotAsked {
 }
 
 impl From<NotBuilt> for NotAsked {
-    ghost from_gives = { λ why e. e ≡ not.Packet why };
+    ghost from_gives = { λ why e. e ≡ why_not.Packet why };
 
     fn from(why: NotBuilt) -> NotAsked {
         NotAsked::Packet(why)

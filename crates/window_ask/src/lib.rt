@@ -5,7 +5,7 @@ ghost use Rattle.std.specs.Prelude.{◌≡◌, ◌≤◌, length};
 ghost use Rattle.state.specs.Words.{keep_in, state_words};
 ghost use Rattle.window_ask.specs.Answers.{not_asked};
 ghost use Rattle.window_ask.specs.Promise.{AskPromise, NewPromise};
-ghost use Rattle.window_ask.specs.declared.NotAsked.TheVariants as not;
+ghost use Rattle.window_ask.specs.declared.NotAsked.TheVariants as why_not;
 
 use ground::Numbered;
 use histogram::admit;
@@ -44,7 +44,7 @@ impl Numbered for NotAsked {
 }
 
 impl From<WrongMemory> for NotAsked {
-    ghost from_gives = { λ why e. e ≡ not.Memory why };
+    ghost from_gives = { λ why e. e ≡ why_not.Memory why };
 
     fn from(why: WrongMemory) -> NotAsked {
         NotAsked::Memory(why)
@@ -52,7 +52,7 @@ impl From<WrongMemory> for NotAsked {
 }
 
 impl From<NoTurn> for NotAsked {
-    ghost from_gives = { λ why e. e ≡ not.Turn why };
+    ghost from_gives = { λ why e. e ≡ why_not.Turn why };
 
     fn from(why: NoTurn) -> NotAsked {
         NotAsked::Turn(why)
@@ -60,7 +60,7 @@ impl From<NoTurn> for NotAsked {
 }
 
 impl From<NotTaken> for NotAsked {
-    ghost from_gives = { λ why e. e ≡ not.Window why };
+    ghost from_gives = { λ why e. e ≡ why_not.Window why };
 
     fn from(why: NotTaken) -> NotAsked {
         NotAsked::Window(why)
