@@ -64,15 +64,16 @@ module _ (f : Found) (next : Result (Unit {0}) NotTaken) (apid : ℕ) (room buff
       (λ l z. omega arith) (λ l z. omega arith))
 
   -- so that writing is refused by 3 alone
-  pub written_short : (why : NotWritten) {after : List ℕ} {x : Unit {0}} → f.sent ≡ Ok at → next ≡ Ok x
+  pub written_short : Bytes room → (why : NotWritten) {after : List ℕ} {x : Unit {0}} → f.sent ≡ Ok at → next ≡ Ok x
       → WritePromise buffer apid (take ((at + 7) / 8) room) (Err why) after → WrittenPromise f next apid room buffer (Err BufferTooShort) after
-  written_short W.BufferTooShort {after} t e p =
+  written_short b W.BufferTooShort {after} t e p =
       record {
+        fine = b;
         outcome =
             ap (totalled f.total) p.outcome
             ∙ sym (ap₂ (λ (s : Result ℕ NotSent) (r : Result (Unit {0}) NotTaken). writing s f.total (checked_paper r) apid room buffer) t e);
       }
-  written_short W.TooMuchData {after} t e p = absurd (never (ap (λ (x : Outcome ℕ (List ℕ)). number_of x.answer) p.outcome))
+  written_short b W.TooMuchData {after} t e p = absurd (never (ap (λ (x : Outcome ℕ (List ℕ)). number_of x.answer) p.outcome))
 
 -- the pass that ends a trial: marked words to 0 where a packet was written, marks taken back where it is refused
 abbrev pub ending : Result Packet NotBuilt → Pass

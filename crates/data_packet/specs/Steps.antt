@@ -1,6 +1,7 @@
 -- What the parts of building answer for: items tried, their packet written, their marks settled.
 -- Assumes nothing.
 use Rattle.std.specs.Prelude.{Bool, true, false, List, ◌++◌, ◌≡◌, ℕ, ◌+◌, ◌*◌, ◌/◌, ◌≤◌, ◌<◌, length, get_or, take, IfOk, Result, Ok, Err}
+use Rattle.ground.specs.Bytes.{Bytes}
 use Rattle.ground.specs.Choice.{pick}
 use Rattle.ground.specs.Outcome.{Outcome, accept, outcome_of, onward_to, refuse}
 use Rattle.ground.specs.Paper.{Paper, accepted, refused}
@@ -104,9 +105,10 @@ abbrev pub writing : Result ℕ NotSent → ℕ → Paper (Unit {0}) → ℕ →
 writing (Ok at) total next apid data' buffer = onward_to (λ x. totalled total (write_means buffer apid (take ((at + 7) / 8) data'))) buffer next
 writing (Err why) total next apid data' buffer = refuse (not_built.number (sent_not why)) buffer
 
--- the same as a promise
+-- the same as a promise, of data that are bytes
 pub record WrittenPromise (f : Found) (next : Result (Unit {0}) NotTaken) (apid : ℕ) (data' buffer : List ℕ) (r : Result Packet NotBuilt) (after : List ℕ)
     : Type 0 where
+  pub fine : Bytes data'
   pub outcome : outcome_of (built_paper r) after ≡ writing f.sent f.total (checked_paper next) apid data' buffer
 
 -- the items run behind first bits, and their packet

@@ -1,14 +1,13 @@
 // The board's data packet: a table of items run over a page in order, and the packet built of what they send.
 #![tactic(auto)]
 
-ghost use Rattle.std.specs.Prelude.{◌≡◌, ◌*◌, ◌≤◌, length, take, IfOk};
-ghost use Rattle.ground.specs.Bits.{bits_of};
+ghost use Rattle.std.specs.Prelude.{◌≡◌, ◌*◌, ◌≤◌, length, IfOk};
+ghost use Rattle.ground.specs.Bits.{to_bits};
 ghost use Rattle.data_packet.specs.Answers.{inputs_of, not_built, sent_not, taken_not};
 ghost use Rattle.data_packet.specs.Meaning.{apid_of, most_items};
 ghost use Rattle.data_packet.specs.Promise.{BuildPromise};
 ghost use Rattle.data_packet.specs.Steps.{RunPromise, WrittenPromise, most_data};
 ghost use Rattle.data_packet.specs.declared.NotBuilt.TheVariants.{OutOfRange as Range};
-ghost use Rattle.item.specs.Filling.{Filled};
 
 use cadence::OutOfRange;
 use ground::Numbered;
@@ -128,26 +127,27 @@ pub fn build(
     if !inputs.allowed() {
         return Err(NotBuilt::ForbiddenItem);
     }
-    let mut bytes = [0; MOST_DATA];
-    bytes[0] = inputs.first_byte()?;
-    run(memory, page, inputs, &mut bytes, buffer)
+    let first = inputs.first_byte()?;
+    run(memory, page, inputs, first, buffer)
 }
 
-// Runs the items behind the first byte of the data, and writes the packet; refused, the memory is as it was.
+// Runs the items, and writes the packet of a first byte and what they send; refused, the memory is as it was.
 fn run(
     memory: &mut [u32],
     page: bool,
     inputs: Inputs,
-    bytes: &mut [u8],
+    first: u8,
     buffer: &mut [u8],
 ) -> Result<Packet, NotBuilt>
-    requires { (length inputs.items.now ≤ most_items) × (length bytes.old ≡ most_data) × Filled bytes.old (take 8 (bits_of bytes.old)) }
-    ensures { RunPromise memory.old page (inputs_of inputs.entry) (take 8 (bits_of bytes.old)) buffer.old result memory.new buffer.new }
+    requires { length inputs.items.now ≤ most_items }
+    ensures { RunPromise memory.old page (inputs_of inputs.entry) (to_bits 8 first) buffer.old result memory.new buffer.new }
 {
+    let mut bytes = [0; MOST_DATA];
+    bytes[0] = first;
     let (good, next) = leading(memory, page, inputs.items);
     let items = &inputs.items[..good];
-    let found = trial(memory, page, items, bytes);
-    let answer = written(found, next, inputs.apid(), bytes, buffer);
+    let found = trial(memory, page, items, &mut bytes);
+    let answer = written(found, next, inputs.apid(), &bytes, buffer);
     let pass = if answer.is_ok() {
         Pass::Zero
     } else {

@@ -12,10 +12,10 @@ pub returns-then-not-allowed : goal.returns-then-not-allowed
 returns-then-not-allowed c =
     by22 _ _ _ _ c.if-inputs-gt-MOST_ITEMS.false (sym c.allowed.ensures ∙ c.if-not-allowed.true)
 
-pub returns-in_err-bytes : goal.returns-in_err-bytes
-returns-in_err-bytes c =
-    by19 _ _ _ _ c.if-inputs-gt-MOST_ITEMS.false (sym c.allowed.ensures ∙ c.if-not-allowed.false) c.in_err-bytes.ensures (search rules)
+pub returns-in_err-first : goal.returns-in_err-first
+returns-in_err-first c =
+    by19 _ _ _ _ c.if-inputs-gt-MOST_ITEMS.false (sym c.allowed.ensures ∙ c.if-not-allowed.false) c.in_err-first.ensures (search rules)
 
 pub returns : goal.returns
 returns c =
-    goes_on _ _ _ _ c.if-inputs-gt-MOST_ITEMS.false (sym c.allowed.ensures ∙ c.if-not-allowed.false) c.in_ok-bytes.ensures refl c.run.ensures
+    goes_on _ _ _ _ c.if-inputs-gt-MOST_ITEMS.false (sym c.allowed.ensures ∙ c.if-not-allowed.false) c.in_ok-first.ensures refl c.run.ensures

@@ -1,7 +1,6 @@
 -- `run` meets its contract: the leading items are tried, what they send is written, and their marks are settled by that.
 -- Assumes nothing.
 use mathlib.Core.Path.{◌≡◌, refl, ◌∙◌}
-use borrow.Author.Rules.{rules}
 use native.Mathlib.Omega.{arith}
 use lib.Seq.{length-take-le}
 use Rattle.data_packet.proofs.Returns.{ending, ends_zero, ends_unmark, lead_inside, run_ended}
@@ -31,5 +30,5 @@ returns c =
       | else-is_ok w ↦ w.pass-is ∙ ends_unmark c.written-answer.result w.if-is_ok.ensures.value
     ] in
     run_ended a.memory.now a.page _ _ a.buffer.now c.leading-good.result.0 c.leading-good.result.1 c.trial-found.result c.trial-found.new.memory
-    c.trial-found.new.bytes c.leading-good.ensures c.trial-found.ensures c.trial-found.auto.memory (search rules) c.apid.ensures c.written-answer.ensures pass
+    c.trial-found.new.bytes c.leading-good.ensures c.trial-found.ensures c.trial-found.auto.memory c.written-answer.ensures.fine c.apid.ensures c.written-answer.ensures pass
     c.settle.ensures
