@@ -1,18 +1,25 @@
 -- Rows and windows, a cell and a row at a time: the steps of the loops over them.
 -- Assumes nothing.
-use mathlib.Core.Path.{◌≡◌, refl}
+use mathlib.Core.Path.{◌≡◌, refl, sym}
 use mathlib.Core.Bool.{Bool, ◌&&◌, and-true}
 use mathlib.Core.List.{List}
-use Prim.Native.Nat.{ℕ, ◌+◌}
+use Prim.Native.Nat.{ℕ, ◌+◌, ◌/◌, ◌<◌}
 use native.Mathlib.Numerals.{add-one}
+use Rattle.std.specs.Prelude.{Ok}
 use lib.Dec.{leb}
 use lib.ListN.{length, get_or, set}
 use Rattle.pages.specs.Layout.{place_of}
-use Rattle.pages.specs.Meaning.{Walk, full, row_of, row_start, rows_in, sound_of, walk_at}
+use Rattle.pages.specs.Meaning.{Walk, full, last_of, row_of, row_start, rows_in, sound_of, walk_at}
+use Rattle.pages.specs.Outcomes.{checked_inside}
 use Rattle.pages.specs.Passes.{left_of, pass_append, pass_of, value_of}
+use Rattle.pages.specs.Promise.{CheckPromise}
 use Rattle.pages.specs.Walks.{sound-append}
 use Rattle.pages.specs.declared.Pass.{Pass}
 use Rattle.pages.specs.declared.Window.{Window}
+
+-- a window that was found sound has its last cell inside the page
+pub inside : (m : List ℕ) (page : Bool) (w : Window) → CheckPromise m page w (Ok tt) → last_of w < length m / 2
+inside m page w p = (checked_inside m page w (sym p.answer)).0
 
 -- one cell more of a row checked
 pub sound_cell : (m : List ℕ) (page : Bool) (start c : ℕ) {at : ℕ} {ok : Bool} → ok ≡ sound_of m page (row_of start c)

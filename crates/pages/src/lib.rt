@@ -134,7 +134,7 @@ pub fn count(memory: &mut [u32], second: bool, address: u32) -> Result<(), NotCo
 }
 
 // Sums the cells of a window of a page in order, each set to 0 at once where the window clears.
-#[tactic(auto, using(crate::specs::Passes::window_walk_lem), unfolding(crate::specs::Meaning::take_means))]
+#[tactic(auto, using(crate::proofs::Walking::inside, crate::specs::Passes::window_walk_lem), unfolding(crate::specs::Meaning::take_means))]
 pub fn take(memory: &mut [u32], second: bool, window: Window) -> Result<u64, NotTaken>
     ensures { TakePromise memory.old second window result memory.new }
 {
