@@ -112,7 +112,6 @@ pub fn flip(memory: &[u32], state: &mut [u64]) -> Result<(), WrongMemory>
 }
 
 // Makes the state of an opened memory of so many words: the first page active, nothing kept.
-#[tactic(auto, unfolding(state::specs::Words::fresh_in))]
 fn fresh(state: &mut [u64], words: u64)
     requires { state_words ≤ length state.old }
     ensures { state.new ≡ fresh_in state.old words }
