@@ -52,7 +52,8 @@ pub lead_inside : (o : List ℕ) (page : Bool) (table : List ℕ) (g : ℕ) {nex
 lead_inside o page table g m p l =
     rw l (λ i k. (takable o page (window_of (get_or (take g table) i 0)) (fair_at o page (take g table) i p.fair k)).inside)
 
-module _ (f : Found) (next : Result (Unit {0}) NotTaken) (apid : ℕ) (room buffer : List ℕ) (at : ℕ) (far : at ≤ 8 * most_data) (long : length room ≡ most_data) where
+module _ (f : Found) (next : Result (Unit {0}) NotTaken) (apid : ℕ) (room buffer : List ℕ) (at : ℕ) (far : at ≤ 8 * most_data)
+    (long : length room ≡ most_data) where
   -- there is never too much data
   never : 2 ≡ number_of (write_means buffer apid (take ((at + 7) / 8) room)).answer → ⊥
   unfolding write_means

@@ -30,7 +30,11 @@ record SentMore (t : Tried) (first : List ℕ) (r : Result ℕ NotSent) (room ro
 
 -- a trial of which an item's bits were sent, or refused
 abbrev sent_on : Tried → Run → Paper (List ℕ) → Tried
-sent_on t run b = record { run = record { memory = run.memory; result = run.result; total = run.total; bits = t.run.bits ++ bits_or b }; fits = t.fits && yes b }
+sent_on t run b =
+    record {
+      run = record { memory = run.memory; result = run.result; total = run.total; bits = t.run.bits ++ bits_or b };
+      fits = t.fits && yes b;
+    }
 
 sent_more : (t : Tried) (run : Run) (x own : ℕ) {first room room' : List ℕ} (s : Result ℕ NotSent) {r : Result ℕ NotSent} → SentSo t first s room
     → NextPromise room s x own r room' → length (first ++ t.run.bits) + 29 ≤ 8 * length room → length room ≤ 2 ^ 60

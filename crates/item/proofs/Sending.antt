@@ -107,6 +107,7 @@ unfolding format_bits
 logarithm_known r {log8} p = ap (mapped (to_bits 8)) (sym (log8_means_lem r (on_paper too_large log8) p.answer))
 
 -- the 24-bit integer that was answered
-pub integer_known : (r : ℕ) {integer : Result ℕ format.TooLarge} → Int24CodePromise r integer → format_bits 2 r ≡ mapped (to_bits 24) (on_paper too_large integer)
+pub integer_known : (r : ℕ) {integer : Result ℕ format.TooLarge} → Int24CodePromise r integer
+    → format_bits 2 r ≡ mapped (to_bits 24) (on_paper too_large integer)
 unfolding format_bits
 integer_known r p = ap (mapped (to_bits 24)) (sym p.answer)

@@ -14,7 +14,8 @@ use Rattle.item.specs.Promise.{SendPromise}
 use Rattle.item.specs.declared.NotSent.{NotSent}
 
 -- sending has one outcome
-pub send_one : {buffer : List ℕ} {at x r : ℕ} {s t : Result ℕ NotSent} {a b : List ℕ} → SendPromise buffer at x r s a → SendPromise buffer at x r t b → (s ≡ t) × (a ≡ b)
+pub send_one : {buffer : List ℕ} {at x r : ℕ} {s t : Result ℕ NotSent} {a b : List ℕ} → SendPromise buffer at x r s a → SendPromise buffer at x r t b
+    → (s ≡ t) × (a ≡ b)
 send_one p q = one_outcome not_sent p.outcome q.outcome
 
 -- one window for an item

@@ -21,8 +21,8 @@ pub log8_encloses : {count code : ℕ} {r : Option (ℕ × ℕ)} → Log8CodePro
 log8_encloses {count} {code} {r} p q = (two_sides code count (log8_counts_paper r) q.answer).0 p.answer
 
 -- every count that a byte's two counts enclose, both of them too, has that byte
-pub log8_enclosed : {count code : ℕ} {r : Option (ℕ × ℕ)} {s : Result ℕ TooLarge} → Log8CountsPromise code r → Encloses (log8_counts_paper r) count → Log8CodePromise count s
-    → s ≡ Ok code
+pub log8_enclosed : {count code : ℕ} {r : Option (ℕ × ℕ)} {s : Result ℕ TooLarge} → Log8CountsPromise code r → Encloses (log8_counts_paper r) count
+    → Log8CodePromise count s → s ≡ Ok code
 log8_enclosed {count} {code} {r} {s} q e p =
     let g : Gives code count = (two_sides code count (log8_counts_paper r) q.answer).1 e in
     one_result too_large (log8_one count (log8_code_paper s) (accepted code) p.answer g) refl

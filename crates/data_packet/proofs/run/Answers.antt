@@ -29,6 +29,8 @@ returns c =
       | then-is_ok w ↦ w.pass-is ∙ ends_zero c.written-answer.result w.if-is_ok.ensures.value
       | else-is_ok w ↦ w.pass-is ∙ ends_unmark c.written-answer.result w.if-is_ok.ensures.value
     ] in
-    run_ended a.memory.now a.page _ _ a.buffer.now c.leading-good.result.0 c.leading-good.result.1 c.trial-found.result c.trial-found.new.memory
-    c.trial-found.new.bytes c.leading-good.ensures c.trial-found.ensures c.trial-found.auto.memory c.written-answer.ensures.fine c.apid.ensures c.written-answer.ensures pass
-    c.settle.ensures
+    let lead = c.leading-good in
+    let found = c.trial-found in
+    let written = c.written-answer.ensures in
+    run_ended a.memory.now a.page _ _ a.buffer.now lead.result.0 lead.result.1 found.result found.new.memory found.new.bytes lead.ensures
+    found.ensures found.auto.memory written.fine c.apid.ensures written pass c.settle.ensures

@@ -32,7 +32,8 @@ returns-in_err-log8_code-in-1 c =
 pub returns-in_ok-log8_code-in-1 : goal.returns-in_ok-log8_code-in-1
 returns-in_ok-log8_code-in-1 c =
     let a = c.args in
-    format_put a.buffer.now a.at a.comp a.res 1 c.in-1.is (logarithm_known a.res c.in_ok-log8_code-in-1.ensures) (rw (c.from-in-1.ensures) at c.put-in-1.ensures)
+    format_put a.buffer.now a.at a.comp a.res 1 c.in-1.is (logarithm_known a.res c.in_ok-log8_code-in-1.ensures)
+    (rw (c.from-in-1.ensures) at c.put-in-1.ensures)
 
 pub returns-in_err-int24_code-in-2 : goal.returns-in_err-int24_code-in-2
 returns-in_err-int24_code-in-2 c =

@@ -12,5 +12,6 @@ pub loop-eighth-preserved : goal.loop-eighth-preserved
 loop-eighth-preserved c =
     elim c.if-root-count.branch [
       | then-root-count w ↦ rw (w.reached-is) (eighths_more {r = 1} c.loop-eighth.invariant (rw (first_reached c.root.ensures w.if-root-count.true)))
-      | else-root-count w ↦ rw (w.reached-is) (rw add-zero at (eighths_more {r = 0} c.loop-eighth.invariant (rw (first_missed c.root.ensures w.if-root-count.false))))
+      | else-root-count w ↦
+          rw (w.reached-is) (rw add-zero at (eighths_more {r = 0} c.loop-eighth.invariant (rw (first_missed c.root.ensures w.if-root-count.false))))
     ]
