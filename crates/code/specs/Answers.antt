@@ -72,8 +72,8 @@ abbrev pub shape_values : Shape → ShapeValues
 shape_values s = record { sign = s.sign; magnitude = s.magnitude; error = s.error; next = s.next }
 
 -- the shape that has these values
-abbrev pub shape_back : ShapeValues → Shape
-shape_back v = record { sign = v.sign; magnitude = v.magnitude; error = v.error; next = v.next }
+abbrev pub shape_from : ShapeValues → Shape
+shape_from v = record { sign = v.sign; magnitude = v.magnitude; error = v.error; next = v.next }
 
 -- sign, magnitude, error and the next position; 8, 9 with the bits missing, 10 or 11
 abbrev pub shape_paper : Result Shape Refusal → Paper ShapeValues
@@ -89,8 +89,8 @@ abbrev pub unpack_values : Unpacked → UnpackValues
 unpack_values u = record { value = u.value; next = u.next }
 
 -- the number that has these values
-abbrev pub unpack_back : UnpackValues → Unpacked
-unpack_back t = record { value = t.value; next = t.next }
+abbrev pub unpacked_from : UnpackValues → Unpacked
+unpacked_from t = record { value = t.value; next = t.next }
 
 -- the number and the next position; 8, 9 with the bits missing, 10 or 11
 abbrev pub unpacked_paper : Result Unpacked Refusal → Paper UnpackValues

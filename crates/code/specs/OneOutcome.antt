@@ -4,8 +4,8 @@ use Rattle.std.specs.Prelude.{◌≡◌, Bool, ◌&&◌, List, ℕ, leb, ℤ, na
 use Rattle.ground.specs.Paper.{number_of, one_value}
 use Rattle.ground.specs.Refusals.{one_outcome, one_result_as}
 use Rattle.code.specs.Meaning.{bits_that_count, drop_known, largest}
-use Rattle.code.specs.Answers.{packed_paper, not_packed, not_read, shape_values, shape_back, reason_of, refusal_number}
-use Rattle.code.specs.Answers.{unpacked_paper, unpack_values, unpack_back}
+use Rattle.code.specs.Answers.{packed_paper, not_packed, not_read, shape_values, shape_from, reason_of, refusal_number}
+use Rattle.code.specs.Answers.{unpacked_paper, unpack_values, unpacked_from}
 use Rattle.code.specs.Promise.{PackPromise, ShapePromise, UnpackPromise, SignPromise, PowerPromise, BitPromise}
 use Rattle.code.specs.declared.NotPacked.{NotPacked}
 use Rattle.code.specs.declared.Refusal.{Refusal}
@@ -19,11 +19,11 @@ pack_one p q = one_outcome not_packed p.outcome q.outcome
 
 -- reading a shape has one outcome
 pub shape_one : {bytes : List ℕ} {at d : ℕ} {r s : Result Shape Refusal} → ShapePromise bytes at d r → ShapePromise bytes at d s → r ≡ s
-shape_one p q = one_result_as not_read shape_values shape_back (λ s. refl) p.answer q.answer
+shape_one p q = one_result_as not_read shape_values shape_from (λ s. refl) p.answer q.answer
 
 -- reading has one outcome, by `unpack`, by a reader and by the call above them
 pub unpack_one : {bytes : List ℕ} {at d : ℕ} {r s : Result Unpacked Refusal} → UnpackPromise bytes at d r → UnpackPromise bytes at d s → r ≡ s
-unpack_one p q = one_result_as not_read unpack_values unpack_back (λ u. refl) p.answer q.answer
+unpack_one p q = one_result_as not_read unpack_values unpacked_from (λ u. refl) p.answer q.answer
 
 -- one number for an answer of writing
 pub packed_number_one : (answer : Result ℕ NotPacked) {m n : ℕ} → m ≡ number_of (packed_paper answer) → n ≡ number_of (packed_paper answer) → m ≡ n

@@ -7,7 +7,7 @@ use Rattle.std.specs.Borrow.{Bor}
 use Rattle.ground.specs.Choice.{pick_elim}
 use Rattle.ground.specs.Paper.{Paper, accepted, refusal, refused, refused_with, number_of, onward, mapped, handed_on}
 use Rattle.ground.specs.Refusals.{off_paper, off_on_paper_as}
-use Rattle.code.specs.Answers.{not_read, shape_paper, shape_values, shape_back, unpacked_paper, unpack_values, unpack_back}
+use Rattle.code.specs.Answers.{not_read, shape_paper, shape_values, shape_from, unpacked_paper, unpack_values, unpacked_from}
 use Rattle.code.specs.Meaning.{ShapeValues, UnpackValues, number_read, shape_means, unpack_means}
 use Rattle.code.specs.Missing.{NineAlone, nine_alone, onward_nine_alone}
 use Rattle.code.specs.Promise.{ShapePromise, UnpackPromise}
@@ -18,7 +18,7 @@ use Rattle.code.specs.declared.Unpacked.{Unpacked}
 use Rattle.cadence.specs.Meaning.{length_of, seconds_means}
 use Rattle.reader.specs.Promise.{ReaderPromise}
 use Rattle.reader.specs.declared.Reader.{Reader}
-use Rattle.rate.specs.Answers.{reading_paper, counts_values, counts_back, rate_paper, not_formed, formed_values, formed_back}
+use Rattle.rate.specs.Answers.{reading_paper, counts_values, counts_from, rate_paper, not_formed, formed_values, formed_from}
 use Rattle.rate.specs.Meaning.{RateValues, ReadingValues, negative, rate_means, rate_values, reading_means, shape_reads}
 use Rattle.rate.specs.Promise as rates
 use Rattle.rate.specs.declared.Counts.{Counts}
@@ -78,30 +78,30 @@ answers_alike one one_back one_home other other_back other_home alike x y e f i 
 
 -- the answers that papers came from
 abbrev shape_off : Paper ShapeValues → Result Shape Refusal
-shape_off p = off_paper not_read (mapped shape_back p)
+shape_off p = off_paper not_read (mapped shape_from p)
 
 shape_home : (a : Result Shape Refusal) → shape_off (shape_paper a) ≡ a
-shape_home = off_on_paper_as not_read shape_values shape_back (λ s. refl)
+shape_home = off_on_paper_as not_read shape_values shape_from (λ s. refl)
 
 module _ (bytes : List ℕ) (at d : ℕ) (a : Result Shape Refusal) (p : ShapePromise bytes at d a) (n : ℕ) where
   -- `unpack`
   pub unpack_hands_on : (r : Result Unpacked Refusal) → UnpackPromise bytes at d r → Alike (a ≡ Err (RanOut n)) (r ≡ Err (RanOut n))
   unpack_hands_on r q =
-      answers_alike shape_paper shape_off shape_home unpacked_paper (λ (p : Paper UnpackValues). off_paper not_read (mapped unpack_back p))
-      (off_on_paper_as not_read unpack_values unpack_back (λ u. refl)) (number_hands_on bytes at d) a r p.answer q.answer refl refl
+      answers_alike shape_paper shape_off shape_home unpacked_paper (λ (p : Paper UnpackValues). off_paper not_read (mapped unpacked_from p))
+      (off_on_paper_as not_read unpack_values unpacked_from (λ u. refl)) (number_hands_on bytes at d) a r p.answer q.answer refl refl
 
   -- `reading`
   pub reading_hands_on : (r : Result Counts Refusal) → rates.ReadingPromise bytes at d r → Alike (a ≡ Err (RanOut n)) (r ≡ Err (RanOut n))
   reading_hands_on r q =
-      answers_alike shape_paper shape_off shape_home reading_paper (λ (p : Paper ReadingValues). off_paper not_read (mapped counts_back p))
-      (off_on_paper_as not_read counts_values counts_back (λ c. refl)) (counts_hand_on bytes at d) a r p.answer q.answer refl refl
+      answers_alike shape_paper shape_off shape_home reading_paper (λ (p : Paper ReadingValues). off_paper not_read (mapped counts_from p))
+      (off_on_paper_as not_read counts_values counts_from (λ c. refl)) (counts_hand_on bytes at d) a r p.answer q.answer refl refl
 
   -- `rate`, whatever the level
   pub rate_hands_on : (level : ℕ) (r : Result Formed NotFormed) → rates.RatePromise bytes at d level r
       → Alike (a ≡ Err (RanOut n)) (r ≡ Err (F.Refused (RanOut n)))
   rate_hands_on level r q =
-      answers_alike shape_paper shape_off shape_home rate_paper (λ (p : Paper RateValues). off_paper not_formed (mapped formed_back p))
-      (off_on_paper_as not_formed formed_values formed_back (λ f. refl)) both a r p.answer q.answer refl refl
+      answers_alike shape_paper shape_off shape_home rate_paper (λ (p : Paper RateValues). off_paper not_formed (mapped formed_from p))
+      (off_on_paper_as not_formed formed_values formed_from (λ f. refl)) both a r p.answer q.answer refl refl
     where
       both : Alike (shape_means bytes at d ≡ refused_with 9 n) (rate_means bytes at d level ≡ refused_with 9 n)
       both = (

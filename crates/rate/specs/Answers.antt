@@ -18,8 +18,8 @@ abbrev pub counts_values : Counts → ReadingValues
 counts_values c = record { reading = c.reading; next = c.next }
 
 -- the counts that have these values
-abbrev pub counts_back : ReadingValues → Counts
-counts_back v = record { reading = v.reading; next = v.next }
+abbrev pub counts_from : ReadingValues → Counts
+counts_from v = record { reading = v.reading; next = v.next }
 
 -- the reading and the next position; 8, 9 with the bits missing, 10 or 11
 abbrev pub reading_paper : Result Counts Refusal → Paper ReadingValues
@@ -56,8 +56,8 @@ abbrev pub formed_values : Formed → RateValues
 formed_values f = record { rate = f.rate; next = f.next }
 
 -- the rate that has these values
-abbrev pub formed_back : RateValues → Formed
-formed_back v = record { rate = v.rate; next = v.next }
+abbrev pub formed_from : RateValues → Formed
+formed_from v = record { rate = v.rate; next = v.next }
 
 -- the rate and the next position; 8, 9 with the bits missing, 10, 11 or 19
 abbrev pub rate_paper : Result Formed NotFormed → Paper RateValues
