@@ -135,9 +135,12 @@ fn put_bytes(buffer: &mut [u8], first: usize, number: u64, count: u32)
     ensures { bits_of buffer.new ≡ put_over (bits_of buffer.old) (8 * first) (to_bits count number) }
 {
     let mut left = count;
-    for i in first..first + (count / 8) as usize {
-        left -= 8;
+    let mut i = first;
+    // Stays: tried, and it misses a bar of speed. A `for` over the bytes takes a quarter longer for small numbers (bench/run "pack 1,000").
+    while 0 < left {
+        left -= left.min(8);
         put_byte(buffer, i, number >> left);
+        i += 1;
     }
 }
 
