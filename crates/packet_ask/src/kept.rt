@@ -10,13 +10,12 @@ ghost use Rattle.packet_ask.specs.Meaning.{again_means};
 
 use data_packet::Inputs;
 use state::{
-    BYTE_COUNT, BYTES, FLAGS, INITIAL, ITEM_COUNT, ITEMS, KEPT, LOW, MOST_BYTES, MOST_ITEMS,
+    BYTE_COUNT, BYTES, FLAGS, INITIAL, ITEM_COUNT, ITEMS, KEPT, LOW, Lent, MOST_BYTES, MOST_ITEMS,
     NUMBER, NoTurn, PACKET_ASK, SECOND_OF_HOUR, SUM, Turn, turn_by,
 };
 
 // What a packet ask's number and inputs make it, beside what is kept.
 pub(crate) fn packet_turn(state: &[u64], number: u16, inputs: Inputs) -> Result<Turn, NoTurn>
-    requires { state_words ≤ length state.now }
     ensures { result ≡ turn_in state.now number (Asked.packet (inputs_of inputs.entry)) }
 {
     turn_by(state, number, repeats(state, number, inputs))
@@ -24,32 +23,32 @@ pub(crate) fn packet_turn(state: &[u64], number: u16, inputs: Inputs) -> Result<
 
 // Whether an ask for a packet bears the last number and asks for the same as the kept one.
 fn repeats(state: &[u64], number: u16, inputs: Inputs) -> bool
-    requires { state_words ≤ length state.now }
     ensures { result ≡ repeats_in state.now number (Asked.packet (inputs_of inputs.entry)) }
 {
-    u64::from(number) == state[NUMBER] && same_inputs(state, inputs)
+    match Lent::of(state) {
+        Some(lent) => lent.is_last(number) && same_inputs(lent, inputs),
+        None => false,
+    }
 }
 
 // Whether the kept ask is one for a packet of these inputs; a window's is not.
-fn same_inputs(state: &[u64], inputs: Inputs) -> bool
-    requires { state_words ≤ length state.now }
-    ensures { result ≡ same_asked (asked_in state.now) (Asked.packet (inputs_of inputs.entry)) }
+fn same_inputs(lent: Lent, inputs: Inputs) -> bool
+    ensures { result ≡ same_asked (asked_in lent.entry.words.now) (Asked.packet (inputs_of inputs.entry)) }
 {
-    state[KEPT] == PACKET_ASK
-        && state[LOW] == u64::from(inputs.low)
-        && state[FLAGS] == u64::from(inputs.flags)
-        && state[INITIAL] == u64::from(inputs.initial)
-        && state[SECOND_OF_HOUR] == u64::from(inputs.second)
-        && same_table(state, inputs.items)
+    lent.words[KEPT] == PACKET_ASK
+        && lent.words[LOW] == u64::from(inputs.low)
+        && lent.words[FLAGS] == u64::from(inputs.flags)
+        && lent.words[INITIAL] == u64::from(inputs.initial)
+        && lent.words[SECOND_OF_HOUR] == u64::from(inputs.second)
+        && same_table(lent, inputs.items)
 }
 
 // Whether the kept table is this one: as many items, and each the same.
-fn same_table(state: &[u64], items: &[u64]) -> bool
-    requires { state_words ≤ length state.now }
-    ensures { result ≡ same_items (inputs_in state.now).items items.now }
+fn same_table(lent: Lent, items: &[u64]) -> bool
+    ensures { result ≡ same_items (inputs_in lent.entry.words.now).items items.now }
 {
-    let count = at_most(state[ITEM_COUNT], MOST_ITEMS);
-    &state[ITEMS..ITEMS + count] == items
+    let count = at_most(lent.words[ITEM_COUNT], MOST_ITEMS);
+    &lent.words[ITEMS..ITEMS + count] == items
 }
 
 // What a word says, and no more than the most.
@@ -61,15 +60,14 @@ fn at_most(said: u64, most: usize) -> usize
 
 // Hands out the bytes of the kept packet again, at the buffer's front; nothing where they do not fit.
 #[tactic(auto, using(crate::proofs::Copying::bytes_long))]
-pub(crate) fn bytes_again(state: &[u64], buffer: &mut [u8]) -> Option<u64>
-    requires { state_words ≤ length state.now }
-    ensures { outcome_of (rewritten_paper result) buffer.new ≡ again_means state.now buffer.old }
+pub(crate) fn bytes_again(lent: Lent, buffer: &mut [u8]) -> Option<u64>
+    ensures { outcome_of (rewritten_paper result) buffer.new ≡ again_means lent.entry.words.now buffer.old }
 {
-    let count = at_most(state[BYTE_COUNT], MOST_BYTES);
+    let count = at_most(lent.words[BYTE_COUNT], MOST_BYTES);
     if buffer.len() < count {
         return None;
     }
-    hand_out(&state[BYTES..BYTES + count], &mut buffer[..count]);
+    hand_out(&lent.words[BYTES..BYTES + count], &mut buffer[..count]);
     Some(count as u64)
 }
 

@@ -15,7 +15,7 @@ use data_packet::{NotBuilt, Packet, build};
 use ground::Numbered;
 use histogram::admit;
 use kept::{bytes_again, keep_packet, packet_turn};
-use state::{NoTurn, Turn, WrongMemory, second_active};
+use state::{Lent, NoTurn, Turn, WrongMemory, second_active};
 
 // What an accepted packet ask answers: its packet, new, or the kept one again.
 #[derive(Clone, Copy, Debug, PartialEq, Eq)]
@@ -82,7 +82,7 @@ pub fn ask_packet(
     admit(memory, state)?;
     match packet_turn(state, number, inputs)? {
         Turn::NewAsk => new_packet(memory, state, number, inputs, buffer),
-        Turn::LastAsk(total) => again(state, buffer, total),
+        Turn::LastAsk(total) => again(Lent { words: state }, buffer, total),
     }
 }
 
@@ -105,10 +105,9 @@ fn new_packet(
 }
 
 // A repeat: the kept bytes handed out with the kept total.
-fn again(state: &[u64], buffer: &mut [u8], total: u64) -> Result<Answered, NotAsked>
-    requires { state_words ≤ length state.now }
-    ensures { AgainPromise state.now buffer.old total result buffer.new }
+fn again(lent: Lent, buffer: &mut [u8], total: u64) -> Result<Answered, NotAsked>
+    ensures { AgainPromise lent.entry.words.now buffer.old total result buffer.new }
 {
-    let written = bytes_again(state, buffer).ok_or(NotBuilt::BufferTooShort)?;
+    let written = bytes_again(lent, buffer).ok_or(NotBuilt::BufferTooShort)?;
     Ok(Answered::Again(Packet { written, total }))
 }

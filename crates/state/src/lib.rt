@@ -1,6 +1,8 @@
 // What a histogram's state says in its lent words: which memory is its own, whose turn an ask is, and which number comes next.
 #![tactic(auto)]
 
+mod lent;
+
 ghost use Rattle.std.specs.Prelude.{◌≡◌, ◌≤◌, eqb, get_or, length};
 ghost use Rattle.state.specs.Words.{Asked, asked_in, last_in, number_at, page_in, state_words, sum_at, window_in};
 ghost use Rattle.state.specs.Turns.{next_of, same_asked, same_of, turn_told};
@@ -9,6 +11,7 @@ ghost use Rattle.state.specs.Answers.{next_paper, no_turn, wrong_memory};
 ghost use Rattle.state.specs.Promise.{NextPromise};
 
 use ground::Numbered;
+pub use lent::Lent;
 use pages::{Window, sized};
 
 // How many items the table of a kept packet has at most, and how many bytes the packet.
@@ -125,11 +128,9 @@ pub fn turn_of(state: &[u64], number: u16, window: Window) -> Result<Turn, NoTur
 pub fn turn_by(state: &[u64], number: u16, same: bool) -> Result<Turn, NoTurn>
     ensures { result ≡ turn_by state.now number same }
 {
-    if state.len() < STATE_WORDS {
-        return Err(NoTurn::OutOfTurn);
-    }
-    if state[KEPT] != 0 {
-        return turn_after(state, number, same);
+    let lent = Lent::of(state).ok_or(NoTurn::OutOfTurn)?;
+    if lent.words[KEPT] != 0 {
+        return lent.turn_after(number, same);
     }
     if number == 1 {
         Ok(Turn::NewAsk)
@@ -143,76 +144,31 @@ pub fn turn_by(state: &[u64], number: u16, same: bool) -> Result<Turn, NoTurn>
 pub fn next(state: &[u64]) -> Result<u16, WrongMemory>
     ensures { NextPromise state.now result }
 {
-    if state.len() < STATE_WORDS {
-        return Err(WrongMemory);
-    }
-    if state[KEPT] == 0 {
+    let lent = Lent::of(state).ok_or(WrongMemory)?;
+    if lent.words[KEPT] == 0 {
         return Ok(1);
     }
-    following(state[NUMBER])
+    following(lent.words[NUMBER])
 }
 
 // Whether an ask of a window bears the last number and asks for the same as the kept one.
 fn repeats(state: &[u64], number: u16, window: Window) -> bool
     ensures { result ≡ repeats_in state.now number (Asked.window window) }
 {
-    STATE_WORDS <= state.len() && is_last(state, number) && same_ask(state, window)
-}
-
-// What an ask's number makes it after an accepted ask, told whether it asks for the same.
-fn turn_after(state: &[u64], number: u16, same: bool) -> Result<Turn, NoTurn>
-    requires { state_words ≤ length state.now }
-    ensures { result ≡ turn_told (last_in state.now) number same }
-{
-    if is_last(state, number) {
-        if same {
-            Ok(Turn::LastAsk(state[SUM]))
-        } else {
-            Err(NoTurn::OtherAsk)
-        }
-    } else if follows(number, state[NUMBER]) {
-        Ok(Turn::NewAsk)
-    } else {
-        Err(NoTurn::OutOfTurn)
+    match Lent::of(state) {
+        Some(lent) => lent.is_last(number) && lent.same_ask(window),
+        None => false,
     }
 }
 
-// Whether a number is that of the kept ask.
-fn is_last(state: &[u64], number: u16) -> bool
-    requires { state_words ≤ length state.now }
-    ensures { result ≡ eqb number (get_or state.now number_at 0) }
-{
-    u64::from(number) == state[NUMBER]
-}
-
 // Whether a number is the one after another.
-fn follows(number: u16, last: u64) -> bool
+pub(crate) fn follows(number: u16, last: u64) -> bool
     ensures { result ≡ eqb number (next_of last) }
 {
     match following(last) {
         Ok(next) => number == next,
         Err(WrongMemory) => false,
     }
-}
-
-// Whether the kept ask is one of this window; a packet's is not.
-fn same_ask(state: &[u64], window: Window) -> bool
-    requires { state_words ≤ length state.now }
-    ensures { result ≡ same_asked (asked_in state.now) (Asked.window window) }
-{
-    state[KEPT] != PACKET_ASK && same_window(state, window)
-}
-
-// Whether the kept window is this one, clear or keep included.
-fn same_window(state: &[u64], window: Window) -> bool
-    requires { state_words ≤ length state.now }
-    ensures { result ≡ same_of (window_in state.now) window }
-{
-    state[ADDRESS] == u64::from(window.address)
-        && state[XSIZE] == u64::from(window.xsize)
-        && state[YSIZE] == u64::from(window.ysize)
-        && state[YSTRIDE] == u64::from(window.ystride)
-        && (state[CLEAR] != 0) == window.clear
 }
 
 // The number after the last accepted one: 0 after 65535; none after a number that no ask bears.

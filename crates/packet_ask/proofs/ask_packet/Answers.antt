@@ -3,12 +3,8 @@
 use mathlib.Core.Path.{ap, sym, ◌∙◌}
 use Rattle.std.specs.Prelude.{Ok}
 use Rattle.std.proofs.lemmas.Result.{err_from_is_err_and}
-use Rattle.histogram.specs.States.{admits_long}
 use Rattle.packet_ask.proofs.Asking.{asks}
 use Rattle.packet_ask.proofs.ask_packet.Goals as goal
-
-pub packet_turn-requires : goal.packet_turn-requires
-packet_turn-requires c = admits_long _ _ (sym c.in_ok-admit.ensures.answer)
 
 pub returns-in_err-packet_turn : goal.returns-in_err-packet_turn
 returns-in_err-packet_turn c =
