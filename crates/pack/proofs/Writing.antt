@@ -43,10 +43,6 @@ leading_zeros m a b =
     let top : j < suc greatest_place = exponent_lt j (suc greatest_place) o.2 (omega arith) in
     (e ∙ sym (leading_is 31 j m (omega arith) o.2 o.3), omega arith, omega arith)
 
--- there is a leading one
-pub leading_zeros_few : (m : ℕ) → 16 ≤ m → m ≤ largest → count_leading_zeros 32 m ≤ 31
-leading_zeros_few m a b = let o = leading_top 32 m (omega arith) (omega arith) in omega (arith, o.1)
-
 -- a power of two less one, as the code computes it
 pub ones_are : (k : ℕ) → k ≤ 30 → (1 * 2 ^ k % 2 ^ 64 - 1 ≡ 2 ^ k - 1) × (1 * 2 ^ k % 2 ^ 64 - 1 < 2 ^ k)
 ones_are k h =
@@ -160,10 +156,6 @@ module _ (byte room number top : ℕ) (small_byte : byte < 256) (in_byte : room 
       (sym (ap (λ (n : ℕ). take place (to_bits n byte)) eight
       ∙ ap (take place) (to_bits_split place room byte)
       ∙ take_at first (to_bits room byte) place (length-to_bits place (byte / 2 ^ room))))
-
--- bits lie in the room that there is
-pub room_holds : (number room space : ℕ) → room ≡ space → number < 2 ^ space → number < 2 ^ room
-room_holds number room space e h = subst (λ (n : ℕ). number < 2 ^ n) (sym e) h
 
 -- the first of bits, as many as there is room for
 pub first_lt : (number count left room : ℕ) → number < 2 ^ count → count ≡ room + left → number / 2 ^ left < 2 ^ room

@@ -28,7 +28,7 @@ pub fn pack(buffer: &mut [u8], at: u64, v: i32, drop: u8) -> Result<u64, NotPack
 pub fn pack_count(buffer: &mut [u8], at: u64, count: u64) -> Result<u64, NotPacked>
     ensures { PackPromise buffer.old at (pos count) 0 result buffer.new }
 {
-    if count <= code::LARGEST as u64 {
+    if count <= u64::from(code::LARGEST) {
         let code = write::code(0, 0, count as u32);
         write::place(buffer, at, code)
     } else {

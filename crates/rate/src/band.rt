@@ -10,16 +10,16 @@ pub(crate) fn counts(m: u32, error: u32) -> Reading
     ensures { result ≡ reading_of m error }
 {
     if error == 0 {
-        return Reading::Exact(m as f64);
+        return Reading::Exact(f64::from(m));
     }
-    Reading::Between(less(m, error) as f64, (m + error) as f64)
+    Reading::Between(f64::from(less(m, error)), f64::from(m + error))
 }
 
 // A rate: each edge is divided once by the seconds.
 pub(crate) fn divided(reading: Reading, length: u16) -> Rate
     ensures { result ≡ rate_of reading length }
 {
-    let seconds = length as f64;
+    let seconds = f64::from(length);
     match reading {
         Reading::Exact(count) => {
             let quotient = count / seconds;
