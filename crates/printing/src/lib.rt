@@ -63,16 +63,16 @@ fn print_runs(line: Line, piece: &[u8], room: &mut [u8]) -> Printed
     ensures { PrintPiecePromise line piece.now result }
 {
     let mut current = line;
-    let mut at = 0;
+    let mut rest = piece;
     let mut put = 0usize;
     let mut written = true;
-    while at < piece.len() {
-        let ran = run(current, &piece[at..], room);
+    while !rest.is_empty() {
+        let ran = run(current, rest, room);
         let given = handed(written, room, ran.put);
         put = put.saturating_add(given.put);
         current = ran.line;
         written = given.written;
-        at += ran.used;
+        rest = &rest[ran.used..];
     }
     Printed {
         line: current,

@@ -1,33 +1,30 @@
 -- `printing::print_runs` meets its contract. The loop's invariant: what is left comes to the same as the whole piece, and so does its
 -- count; each run gets on, so that the measure is the bytes that are left.
 -- Assumes nothing.
-use Rattle.printing.proofs.Pieces.{stays, gets_on, comes_to, counts_to, all_taken}
+use Rattle.printing.proofs.Pieces.{gets_on, comes_to, counts_to, all_taken}
 use borrow.Author.Rules.{rules}
+use Rattle.lines.specs.Moving.{run_used}
 use Rattle.printing.proofs.print_runs.Goals as goal
 
-pub overflow_add-at : goal.overflow_add-at
-overflow_add-at c =
-    let piece = c.args.piece.now in
-    let inside = stays piece c.loop-at.at c.run-ran.ensures c.loop-at-test.true in
-    search rules
+pub slice_bounds-rest-count : goal.slice_bounds-rest-count
+slice_bounds-rest-count c = run_used c.run-ran.ensures
 
-pub loop-at-smaller : goal.loop-at-smaller
-loop-at-smaller c =
-    let piece = c.args.piece.now in
-    gets_on piece c.loop-at.at c.run-ran.ensures c.loop-at-test.true (search rules)
+pub slice_bounds-rest-start : goal.slice_bounds-rest-start
+slice_bounds-rest-start c = let inside = run_used c.run-ran.ensures in search rules
 
-pub loop-at-preserved : goal.loop-at-preserved
-loop-at-preserved c =
-    let piece = c.args.piece.now in (
-      stays piece c.loop-at.at c.run-ran.ensures c.loop-at-test.true,
+pub loop-rest-smaller : goal.loop-rest-smaller
+loop-rest-smaller c = gets_on c.loop-rest.rest.now c.run-ran.ensures (search rules) (search rules)
+
+pub loop-rest-preserved : goal.loop-rest-preserved
+loop-rest-preserved c =
+    let l = c.loop-rest in (
       search rules,
-      comes_to piece c.loop-at.at c.run-ran.ensures c.loop-at-test.true c.loop-at.invariant.2,
-      counts_to piece c.loop-at.at c.run-ran.ensures c.loop-at-test.true c.loop-at.put _ c.saturating_add-put.ensures
-          c.handed-given.ensures c.loop-at.invariant.3,
+      comes_to l.rest.now c.run-ran.ensures l.invariant.1,
+      counts_to l.rest.now c.run-ran.ensures l.put _ c.saturating_add-put.ensures c.handed-given.ensures l.invariant.2,
       search rules,
     )
 
 pub returns : goal.returns
 returns c =
-    all_taken c.args.piece.now c.loop-at.at c.loop-at.put c.loop-at.invariant.2 c.loop-at.invariant.3 c.loop-at-test.false
-    c.loop-at.invariant.4
+    let l = c.loop-rest in
+    all_taken c.args.piece.now l.rest.now l.put (search rules) l.invariant.1 l.invariant.2 l.invariant.3

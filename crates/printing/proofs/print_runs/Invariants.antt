@@ -2,17 +2,18 @@
 -- count; each run gets on, so that the measure is the bytes that are left.
 -- Assumes nothing.
 use mathlib.Core.Path.{◌≡◌}
-use Prim.Native.Nat.{◌+◌, ◌≤◌, ◌-◌}
-use lib.ListN.{length, drop}
+use Prim.Native.Nat.{◌+◌}
+use lib.ListN.{length}
 use Rattle.lines.specs.After.{line_after, answers_within}
 use Rattle.printing.specs.Promise.{capped}
 use Rattle.printing.proofs.print_runs.Given as goal
 
-abbrev pub invariant-loop-at : goal.invariant-loop-at
-invariant-loop-at l = (l.at ≤ length l.piece) × (length l.room ≡ length l.initial.room) ×
-    (line_after l.current (drop l.at l.piece) ≡ line_after l.initial.current l.piece) ×
-    (capped (l.put + length (answers_within l.current (drop l.at l.piece))) ≡ capped (length (answers_within l.initial.current l.piece))) ×
-    (l.put ≡ capped l.put)
+abbrev pub invariant-loop-rest : goal.invariant-loop-rest
+invariant-loop-rest l =
+    (length l.room ≡ length l.initial.room)
+    × (line_after l.current l.rest ≡ line_after l.initial.current l.piece)
+    × (capped (l.put + length (answers_within l.current l.rest)) ≡ capped (length (answers_within l.initial.current l.piece)))
+    × (l.put ≡ capped l.put)
 
-abbrev pub decreases-loop-at : goal.decreases-loop-at
-decreases-loop-at l = length l.piece - l.at
+abbrev pub decreases-loop-rest : goal.decreases-loop-rest
+decreases-loop-rest l = length l.rest
