@@ -2,9 +2,8 @@
 -- Assumes nothing.
 use mathlib.Core.Path.{◌≡◌, sym, ap, ◌∙◌}
 use mathlib.Core.List.{List}
-use Prim.Native.Nat.{ℕ, ◌+◌, ◌-◌, ◌^◌, ◌<◌}
+use Prim.Native.Nat.{ℕ, ◌+◌, ◌^◌, ◌<◌}
 use native.Mathlib.Omega.{arith}
-use borrow.Author.Tests.{eq-eqb, ne_eqb}
 use Rattle.ground.specs.Paper.{Paper, accepted, refused, onward}
 use Rattle.code.specs.Meaning.{shape_means}
 use Rattle.code.specs.Answers.{shape_values}
@@ -13,24 +12,15 @@ use Rattle.code.specs.Theorems.{read_fits}
 use Rattle.code.specs.declared.Shape.{Shape}
 use Rattle.cadence.specs.Meaning.{seconds_means}
 use Rattle.rate.specs.declared.record.Reading.{Reading}
-use Rattle.rate.specs.declared.record.Reading.TheVariants.{Exact, Between}
 use Rattle.rate.specs.declared.record.Rate.{Rate}
 use Rattle.rate.specs.declared.Counts.{Counts}
-use Rattle.rate.specs.Meaning.{ReadingValues, as_float, reading_of, reading_means, rate_of, rate_values, rate_means}
+use Rattle.rate.specs.Meaning.{ReadingValues, reading_of, reading_means, rate_of, rate_values, rate_means}
 use Rattle.rate.specs.Answers.{counts_values}
 use Rattle.rate.specs.Promise.{ReadingPromise}
 use Rattle.rate.specs.Readings.{count_reads, negative_refused}
 use Rattle.std.specs.Prelude.{Ok}
 
 -- ---- a reading
-
--- a code with no error is read as its magnitude
-pub reads_exact : (m error : ℕ) → error ≡ 0 → Exact (as_float m) ≡ reading_of m error
-reads_exact m error z = rw (eq-eqb error 0 z)
-
--- any other is read as its band
-pub reads_between : (m error low : ℕ) → low ≡ m - error → (error ≡ 0 → ⊥) → Between (as_float low) (as_float (m + error)) ≡ reading_of m error
-reads_between m error low l n = rw (ne_eqb error 0 n) (ap (λ (a : ℕ). Between (as_float a) (as_float (m + error))) l)
 
 module _ (bytes : List ℕ) (at d : ℕ) (s : Shape) (p : ShapePromise bytes at d (Ok s)) where
   -- what was read, as the definitions have it
