@@ -112,6 +112,7 @@ pub fn flip(memory: &[u32], state: &mut [u64]) -> Result<(), WrongMemory>
 }
 
 // Makes the state of an opened memory of so many words: the first page active, nothing kept.
+// Stays: the new form is no plainer: words to be written, in a type as `state::Lent`, are taken out of it again before each store.
 fn fresh(state: &mut [u64], words: u64)
     requires { state_words ≤ length state.old }
     ensures { state.new ≡ fresh_in state.old words }

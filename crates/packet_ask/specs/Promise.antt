@@ -7,13 +7,9 @@ use Rattle.item.specs.Inputs.{Inputs}
 use Rattle.state.specs.Words.{most_bytes, most_items}
 use Rattle.data_packet.specs.Meaning.{PacketValues}
 use Rattle.packet_ask.specs.Answers.{packet_paper}
-use Rattle.packet_ask.specs.Meaning.{again_means, handing, new_packet_means, packet_lent, packet_means}
+use Rattle.packet_ask.specs.Meaning.{again_means, handing, packet_lent, packet_means}
 use Rattle.packet_ask.specs.declared.Answered.{Answered}
 use Rattle.packet_ask.specs.declared.NotAsked.{NotAsked}
-
--- what a new packet ask promises, which is no public call
-pub record NewPacketPromise (memory state buffer : List ℕ) (number : ℕ) (i : Inputs) (r : Result Answered NotAsked) (memory' state' buffer' : List ℕ) : Type 0 where
-  pub outcome : outcome_of (packet_paper r) (packet_lent memory' state' buffer') ≡ new_packet_means memory state buffer number i
 
 -- what a repeat promises, which is no public call: whatever the memory, which it is not lent
 pub record AgainPromise (state buffer : List ℕ) (total : ℕ) (r : Result Answered NotAsked) (buffer' : List ℕ) : Type 0 where

@@ -7,7 +7,7 @@ ghost use Rattle.std.specs.Prelude.{◌≡◌, ◌≤◌, length};
 ghost use Rattle.state.specs.Words.{state_words};
 ghost use Rattle.data_packet.specs.Answers.{inputs_of};
 ghost use Rattle.packet_ask.specs.Answers.{not_asked};
-ghost use Rattle.packet_ask.specs.Promise.{AgainPromise, NewPacketPromise, PacketPromise};
+ghost use Rattle.packet_ask.specs.Promise.{AgainPromise, PacketPromise};
 ghost use Rattle.packet_ask.specs.declared.NotAsked.TheVariants as why_not;
 
 pub use data_packet::Inputs;
@@ -69,7 +69,7 @@ impl From<NotBuilt> for NotAsked {
 }
 
 // Builds a packet of the idle page and keeps it, once for each number: the same number and inputs again answers the bytes and the total that were kept.
-#[tactic(auto, unfolding(crate::specs::Meaning::packet_means))]
+#[tactic(auto, unfolding(crate::specs::Meaning::packet_means, crate::specs::Meaning::new_packet_means))]
 pub fn ask_packet(
     memory: &mut [u32],
     state: &mut [u64],
@@ -81,27 +81,14 @@ pub fn ask_packet(
 {
     admit(memory, state)?;
     match packet_turn(state, number, inputs)? {
-        Turn::NewAsk => new_packet(memory, state, number, inputs, buffer),
+        Turn::NewAsk => {
+            let packet = build(memory, !second_active(state), inputs, buffer)?;
+            let bytes = &buffer[..packet.written as usize];
+            keep_packet(state, number, inputs, packet.total, bytes);
+            Ok(Answered::New(packet))
+        }
         Turn::LastAsk(total) => again(Lent { words: state }, buffer, total),
     }
-}
-
-// A new packet ask: refused with the state as it was, or built on the idle page and kept.
-#[tactic(auto, unfolding(crate::specs::Meaning::new_packet_means))]
-fn new_packet(
-    memory: &mut [u32],
-    state: &mut [u64],
-    number: u16,
-    inputs: Inputs,
-    buffer: &mut [u8],
-) -> Result<Answered, NotAsked>
-    requires { state_words ≤ length state.old }
-    ensures { NewPacketPromise memory.old state.old buffer.old number (inputs_of inputs.entry) result memory.new state.new buffer.new }
-{
-    let packet = build(memory, !second_active(state), inputs, buffer)?;
-    let bytes = &buffer[..packet.written as usize];
-    keep_packet(state, number, inputs, packet.total, bytes);
-    Ok(Answered::New(packet))
 }
 
 // A repeat: the kept bytes handed out with the kept total.

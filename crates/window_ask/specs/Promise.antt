@@ -5,13 +5,9 @@ use Rattle.ground.specs.Outcome.{outcome_of}
 use Rattle.pages.specs.declared.Window.{Window}
 use Rattle.histogram.specs.Meaning.{lent}
 use Rattle.window_ask.specs.Answers.{ask_paper}
-use Rattle.window_ask.specs.Meaning.{ask_means, new_means}
+use Rattle.window_ask.specs.Meaning.{ask_means}
 use Rattle.window_ask.specs.declared.Answered.{Answered}
 use Rattle.window_ask.specs.declared.NotAsked.{NotAsked}
-
--- what a new ask promises, which is no public call
-pub record NewPromise (memory state : List ℕ) (number : ℕ) (window : Window) (r : Result Answered NotAsked) (memory' state' : List ℕ) : Type 0 where
-  pub outcome : outcome_of (ask_paper r) (lent memory' state') ≡ new_means memory state number window
 
 -- what an ask promises
 pub record AskPromise (memory state : List ℕ) (number : ℕ) (window : Window) (r : Result Answered NotAsked) (memory' state' : List ℕ) : Type 0 where

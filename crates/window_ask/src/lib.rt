@@ -4,7 +4,7 @@
 ghost use Rattle.std.specs.Prelude.{◌≡◌, ◌≤◌, length};
 ghost use Rattle.state.specs.Words.{keep_in, state_words};
 ghost use Rattle.window_ask.specs.Answers.{not_asked};
-ghost use Rattle.window_ask.specs.Promise.{AskPromise, NewPromise};
+ghost use Rattle.window_ask.specs.Promise.{AskPromise};
 ghost use Rattle.window_ask.specs.declared.NotAsked.TheVariants as why_not;
 
 use ground::Numbered;
@@ -68,7 +68,7 @@ impl From<NotTaken> for NotAsked {
 }
 
 // Sums a window of the idle page, once for each number: the same number and window again answers the sum that was kept.
-#[tactic(auto, unfolding(crate::specs::Meaning::ask_means))]
+#[tactic(auto, unfolding(crate::specs::Meaning::ask_means, crate::specs::Meaning::new_means))]
 pub fn ask(
     memory: &mut [u32],
     state: &mut [u64],
@@ -79,28 +79,17 @@ pub fn ask(
 {
     admit(memory, state)?;
     match turn_of(state, number, window)? {
-        Turn::NewAsk => new_ask(memory, state, number, window),
+        Turn::NewAsk => {
+            let sum = take(memory, !second_active(state), window)?;
+            keep(state, number, window, sum);
+            Ok(Answered::New { sum })
+        }
         Turn::LastAsk(sum) => Ok(Answered::Again { sum }),
     }
 }
 
-// A new ask: it takes its window of the idle page, and its sum is kept.
-#[tactic(auto, unfolding(crate::specs::Meaning::new_means))]
-fn new_ask(
-    memory: &mut [u32],
-    state: &mut [u64],
-    number: u16,
-    window: Window,
-) -> Result<Answered, NotAsked>
-    requires { state_words ≤ length state.old }
-    ensures { NewPromise memory.old state.old number window result memory.new state.new }
-{
-    let sum = take(memory, !second_active(state), window)?;
-    keep(state, number, window, sum);
-    Ok(Answered::New { sum })
-}
-
 // Keeps a new ask and its sum.
+// Stays: the new form is no plainer: words to be written, in a type as `state::Lent`, are taken out of it again before each store.
 fn keep(state: &mut [u64], number: u16, window: Window, sum: u64)
     requires { state_words ≤ length state.old }
     ensures { state.new ≡ keep_in state.old number window sum }
