@@ -86,6 +86,7 @@ pub fn reason<T: Copy>(answer: Result<T, Refusal>) -> Refusal
 }
 
 // The magnitude of a number, at every i32.
+// Stays: what may not change, `magnitude_one` and the page CONTRACTS name it; its body is the library's call.
 pub fn magnitude(v: i32) -> u32
     ensures { result ≡ nat_abs v }
 {
@@ -93,6 +94,7 @@ pub fn magnitude(v: i32) -> u32
 }
 
 // The sign bit of a number.
+// Stays: what may not change, `sign_one` and the page CONTRACTS name it.
 pub fn sign(v: i32) -> u32
     ensures { SignPromise v result }
 {
@@ -114,6 +116,7 @@ pub fn in_rule(m: u32, drop: u8) -> bool
 }
 
 // A drop as the number that widths are made of.
+// Stays: what may not change, `wide_one` and the page CONTRACTS name it; its body is the library's call.
 pub fn wide(drop: u8) -> u32
     ensures { result ≡ drop }
 {

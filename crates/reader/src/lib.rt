@@ -14,6 +14,7 @@ pub struct Reader<'a> {
 }
 
 // A reader of bytes at a bit position.
+// Stays a function, as `moved_to` and `next_code` do: what may not change, the page CONTRACTS names them.
 pub fn reader_at<'a>(bytes: &'a [u8], at: u64) -> Reader<'a>
     ensures { ReaderPromise bytes.entry at result }
 {
