@@ -11,14 +11,13 @@ use lib.Seq.{split_at, take_all, length-take-le}
 use borrow.Author.Tests.{le-ltb}
 use lib.Dec.{ltb}
 use Rattle.ground.specs.Bytes.{Bytes}
-use Rattle.ground.specs.Choice.{pick_elim}
-use Rattle.ground.specs.Outcome.{Outcome, outcome_of, refuse}
+use Rattle.ground.specs.Choice.{pick, pick_elim}
+use Rattle.ground.specs.Outcome.{Outcome, outcome_of, onward_to, refuse}
 use Rattle.ground.specs.Paper.{Paper, accepted, refusal, refused, number_of}
 use Rattle.ground.specs.Questions.{both_ways}
 use Rattle.item.specs.Filling.{filled_front}
 use Rattle.item.specs.Inputs.{Inputs}
 use Rattle.item.specs.Meaning.{bytes_of_bits, window_of}
-use Rattle.item.specs.declared.NotSent.{NotSent}
 use Rattle.packet.specs.Meaning.{write_means}
 use Rattle.packet.specs.Promise.{WritePromise}
 use Rattle.packet.specs.ReadBack.{write_elim, written}
@@ -34,7 +33,7 @@ use Rattle.data_packet.specs.Marks.{touch}
 use Rattle.data_packet.specs.Meaning.{MemoryAndBuffer, PacketValues, Run, apid_of, first_run, memory_and_buffer, run_items, sending}
 use Rattle.data_packet.specs.Running.{Fair, Inside, cleared_of, ends_by_12, ends_by_check, ends_well, settled_back, settled_zero, takable}
 use Rattle.data_packet.specs.Running.{tried_all, cleared_all, with_memory}
-use Rattle.data_packet.specs.Steps.{LeadingPromise, Next, RunPromise, SentSo, TrialPromise, WrittenPromise, assembling, most_data, totalled, writing}
+use Rattle.data_packet.specs.Steps.{LeadingPromise, Next, RunPromise, TrialPromise, WrittenPromise, assembling, most_data, totalled, writing}
 use Rattle.data_packet.specs.declared.Found.{Found}
 use Rattle.data_packet.specs.declared.NotBuilt.{NotBuilt}
 use Rattle.data_packet.specs.declared.NotBuilt.TheVariants.{BufferTooShort}
@@ -52,27 +51,28 @@ pub lead_inside : (o : List ℕ) (page : Bool) (table : List ℕ) (g : ℕ) {nex
 lead_inside o page table g m p l =
     rw l (λ i k. (takable o page (window_of (get_or (take g table) i 0)) (fair_at o page (take g table) i p.fair k)).inside)
 
-module _ (f : Found) (next : Result (Unit {0}) NotTaken) (apid : ℕ) (room buffer : List ℕ) (at : ℕ) (far : at ≤ 8 * most_data)
+module _ (f : Found) (next : Result (Unit {0}) NotTaken) (apid : ℕ) (room buffer : List ℕ) (far : f.at ≤ 8 * most_data)
     (long : length room ≡ most_data) where
   -- there is never too much data
-  never : 2 ≡ number_of (write_means buffer apid (take ((at + 7) / 8) room)).answer → ⊥
+  never : 2 ≡ number_of (write_means buffer apid (take ((f.at + 7) / 8) room)).answer → ⊥
   unfolding write_means
   never =
-      let h : length (take ((at + 7) / 8) room) ≤ 8187 = omega (arith, length-take-le ((at + 7) / 8) room (omega arith)) in
-      pick_elim (λ (x : Outcome ℕ (List ℕ)). 2 ≡ number_of x.answer → ⊥) (ltb 8187 (length (take ((at + 7) / 8) room))) _ _
+      let h : length (take ((f.at + 7) / 8) room) ≤ 8187 = omega (arith, length-take-le ((f.at + 7) / 8) room (omega arith)) in
+      pick_elim (λ (x : Outcome ℕ (List ℕ)). 2 ≡ number_of x.answer → ⊥) (ltb 8187 (length (take ((f.at + 7) / 8) room))) _ _
       (λ k z. both_ways k (le-ltb _ _ h))
-      (λ k. pick_elim (λ (x : Outcome ℕ (List ℕ)). 2 ≡ number_of x.answer → ⊥) (ltb (length buffer) (length (take ((at + 7) / 8) room) + 10)) _ _
+      (λ k. pick_elim (λ (x : Outcome ℕ (List ℕ)). 2 ≡ number_of x.answer → ⊥) (ltb (length buffer) (length (take ((f.at + 7) / 8) room) + 10)) _ _
       (λ l z. omega arith) (λ l z. omega arith))
 
   -- so that writing is refused by 3 alone
-  pub written_short : Bytes room → (why : NotWritten) {after : List ℕ} {x : Unit {0}} → f.sent ≡ Ok at → next ≡ Ok x
-      → WritePromise buffer apid (take ((at + 7) / 8) room) (Err why) after → WrittenPromise f next apid room buffer (Err BufferTooShort) after
+  pub written_short : Bytes room → (why : NotWritten) {after : List ℕ} {x : Unit {0}} → f.fits ≡ true → next ≡ Ok x
+      → WritePromise buffer apid (take ((f.at + 7) / 8) room) (Err why) after → WrittenPromise f next apid room buffer (Err BufferTooShort) after
   written_short b W.BufferTooShort {after} t e p =
       record {
         fine = b;
         outcome =
             ap (totalled f.total) p.outcome
-            ∙ sym (ap₂ (λ (s : Result ℕ NotSent) (r : Result (Unit {0}) NotTaken). writing s f.total (checked_paper r) apid room buffer) t e);
+            ∙ sym (ap₂ (λ (b : Bool) (r : Result (Unit {0}) NotTaken). pick b (onward_to (λ x. totalled f.total
+            (write_means buffer apid (take ((f.at + 7) / 8) room))) buffer (checked_paper r)) (refuse 12 buffer)) t e);
       }
   written_short b W.TooMuchData {after} t e p = absurd (never (ap (λ (x : Outcome ℕ (List ℕ)). number_of x.answer) p.outcome))
 
@@ -117,7 +117,7 @@ module _ (o : List ℕ) (page : Bool) (i : Inputs) (first buffer : List ℕ) (g 
   by_run n e = ap (λ (x : List ℕ). outcome_of (refused n) (memory_and_buffer x buffer)) back ∙ rw e
 
   -- every item was tried, and fits
-  module _ (h : length i.items ≤ g) (at : ℕ) (sent : SentSo (tried_all o page good) first (Ok at) room) where
+  module _ (h : length i.items ≤ g) (k : f.fits ≡ true) where
     all : good ≡ i.items
     all = take_all g i.items h
 
@@ -128,13 +128,13 @@ module _ (o : List ℕ) (page : Bool) (i : Inputs) (first buffer : List ℕ) (g 
     ran : run_items page (first_run o) i.items ≡ accepted run
     ran =
         subst (λ (xs : List ℕ). run_items page (first_run o) xs ≡ accepted (with_memory (cleared_all o page xs) (tried_all o page xs).run)) all
-        (ends_well o page good lead.fair sent.0)
+        (ends_well o page good lead.fair (sym tried.traced.fits ∙ k))
 
     -- its data is in the room
-    data_is : take ((at + 7) / 8) room ≡ bytes_of_bits (first ++ run.bits)
+    data_is : take ((f.at + 7) / 8) room ≡ bytes_of_bits (first ++ run.bits)
     data_is =
-        ap (λ (n : ℕ). take ((n + 7) / 8) room) sent.1
-        ∙ filled_front sent.2 b
+        ap (λ (n : ℕ). take ((n + 7) / 8) room) tried.traced.at
+        ∙ filled_front tried.traced.filled b
         ∙ ap (λ (xs : List ℕ). bytes_of_bits (first ++ (tried_all o page xs).run.bits)) all
 
     -- the marked words set to 0
@@ -153,28 +153,33 @@ module _ (o : List ℕ) (page : Bool) (i : Inputs) (first buffer : List ℕ) (g 
         (tried.traced.total ∙ ap (λ (xs : List ℕ). (tried_all o page xs).run.total) all) zeroed)
         (λ n z. ap (λ (x : List ℕ). outcome_of (refused n) (memory_and_buffer x buffer)) back)
 
-    by_packet : ended (totalled f.total (write_means buffer (apid_of i.low) (take ((at + 7) / 8) room))) ≡ assembling o page i first buffer
+    by_packet : ended (totalled f.total (write_means buffer (apid_of i.low) (take ((f.at + 7) / 8) room))) ≡ assembling o page i first buffer
     by_packet =
         ap (λ (w : List ℕ). ended (totalled f.total (write_means buffer (apid_of i.low) w))) data_is
         ∙ finished (bytes_of_bits (first ++ run.bits))
         ∙ rw ran
 
   -- every leading item fits: the next item decides
-  by_next : (at : ℕ) → SentSo (tried_all o page good) first (Ok at) room → (r : Result (Unit {0}) NotTaken) → Next o page i.items g r
-      → ended (writing (Ok at) f.total (checked_paper r) (apid_of i.low) room buffer) ≡ assembling o page i first buffer
-  by_next at sent (Ok x) h = by_packet h at sent
-  by_next at sent (Err why) h =
+  by_next : (r : Result (Unit {0}) NotTaken) → Next o page i.items g r → f.fits ≡ true
+      → ended (onward_to (λ x. totalled f.total (write_means buffer (apid_of i.low) (take ((f.at + 7) / 8) room))) buffer (checked_paper r))
+      ≡ assembling o page i first buffer
+  by_next (Ok x) h k = by_packet h k
+  by_next (Err why) h k =
       by_run (not_taken.number why)
       (ap (run_items page (first_run o)) (split_at i.items g 0 h.0)
-      ∙ ends_by_check o page good (drop (suc g) i.items) (get_or i.items g 0) (not_taken.number why) lead.fair sent.0 h.1)
+      ∙ ends_by_check o page good (drop (suc g) i.items) (get_or i.items g 0) (not_taken.number why) lead.fair (sym tried.traced.fits ∙ k) h.1)
 
   -- all ways
-  by_writing : (s : Result ℕ NotSent) → SentSo (tried_all o page good) first s room
-      → ended (writing s f.total (checked_paper next) (apid_of i.low) room buffer) ≡ assembling o page i first buffer
-  by_writing (Ok at) sent = by_next at sent next lead.ends
-  by_writing (Err why) sent =
-      rw (sent.1)
-      (by_run 12 (ap (run_items page (first_run o)) (sym (take-append-drop g i.items)) ∙ ends_by_12 o page good (drop g i.items) lead.fair sent.0))
+  by_writing : ended (writing f (checked_paper next) (apid_of i.low) room buffer) ≡ assembling o page i first buffer
+  by_writing = either f.fits refl
+    where
+      either : (t : Bool) → f.fits ≡ t → ended (pick t (onward_to (λ x. totalled f.total
+          (write_means buffer (apid_of i.low) (take ((f.at + 7) / 8) room))) buffer (checked_paper next)) (refuse 12 buffer)) ≡ assembling o page i first buffer
+      either true t = by_next next lead.ends t
+      either false t =
+          by_run 12
+          (ap (run_items page (first_run o)) (sym (take-append-drop g i.items))
+          ∙ ends_by_12 o page good (drop g i.items) lead.fair (sym tried.traced.fits ∙ t))
 
   -- the pass that the answer asks for
   settled_as : (r : Result Packet NotBuilt) → touch (left_of (ending r)) (length m) page m (cleared_of good) ≡ settled_by (built_paper r)
@@ -190,6 +195,6 @@ module _ (o : List ℕ) (page : Bool) (i : Inputs) (first buffer : List ℕ) (g 
         outcome =
             ap (λ (x : List ℕ). outcome_of (built_paper r) (memory_and_buffer x buffer'))
             (s ∙ ap (λ (q : Pass). touch (left_of q) (length m) page m (cleared_of good)) e ∙ settled_as r)
-            ∙ ap ended (p.outcome ∙ ap (λ (n : ℕ). writing f.sent f.total (checked_paper next) n room buffer) a)
-            ∙ by_writing f.sent tried.traced.sent;
+            ∙ ap ended (p.outcome ∙ ap (λ (n : ℕ). writing f (checked_paper next) n room buffer) a)
+            ∙ by_writing;
       }

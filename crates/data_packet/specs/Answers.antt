@@ -5,8 +5,6 @@ use Rattle.ground.specs.Choice.{pick}
 use Rattle.ground.specs.Paper.{Paper, mapped}
 use Rattle.ground.specs.Refusals.{Refusals, on_paper}
 use Rattle.item.specs.Inputs as item
-use Rattle.item.specs.declared.NotSent.{NotSent}
-use Rattle.item.specs.declared.NotSent.TheVariants as sent
 use Rattle.pages.specs.declared.NotTaken.{NotTaken}
 use Rattle.pages.specs.declared.NotTaken.TheVariants as taken
 use Rattle.data_packet.specs.Meaning.{PacketValues}
@@ -64,11 +62,6 @@ packet_back v = record { written = v.written; total = v.total }
 -- building: the bytes written and the total, or 3, 12, 14, 16, 19, 22, 23
 abbrev pub built_paper : Result Packet NotBuilt → Paper PacketValues
 built_paper r = mapped packet_values (on_paper not_built r)
-
--- why an item's result is not sent is why no packet is built; there is always room for its bits
-abbrev pub sent_not : NotSent → NotBuilt
-sent_not sent.TooLarge = TooLarge
-sent_not sent.TooShort = BufferTooShort
 
 -- why an item's window is not taken is why no packet is built
 abbrev pub taken_not : NotTaken → NotBuilt

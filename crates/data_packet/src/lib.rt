@@ -1,9 +1,9 @@
 // The board's data packet: a table of items run over a page in order, and the packet built of what they send.
 #![tactic(auto)]
 
-ghost use Rattle.std.specs.Prelude.{◌≡◌, ◌*◌, ◌≤◌, length, IfOk};
+ghost use Rattle.std.specs.Prelude.{◌≡◌, ◌*◌, ◌≤◌, length};
 ghost use Rattle.ground.specs.Bits.{to_bits};
-ghost use Rattle.data_packet.specs.Answers.{inputs_of, not_built, sent_not, taken_not};
+ghost use Rattle.data_packet.specs.Answers.{inputs_of, not_built, taken_not};
 ghost use Rattle.data_packet.specs.Meaning.{apid_of, most_items};
 ghost use Rattle.data_packet.specs.Promise.{BuildPromise};
 ghost use Rattle.data_packet.specs.Steps.{RunPromise, WrittenPromise, most_data};
@@ -11,7 +11,6 @@ ghost use Rattle.data_packet.specs.declared.NotBuilt.TheVariants.{OutOfRange as 
 
 use cadence::OutOfRange;
 use ground::Numbered;
-use item::NotSent;
 use pages::{NotTaken, Pass};
 use settle::settle;
 use trial::{leading, trial};
@@ -92,24 +91,14 @@ impl From<NotTaken> for NotBuilt {
     }
 }
 
-// An item whose result is not sent: too large for its format; or no room for its bits, which never comes.
-impl From<NotSent> for NotBuilt {
-    ghost from_gives = { λ why e. e ≡ sent_not why };
-
-    fn from(why: NotSent) -> NotBuilt {
-        match why {
-            NotSent::TooLarge => NotBuilt::TooLarge,
-            NotSent::TooShort => NotBuilt::BufferTooShort,
-        }
-    }
-}
-
-// What a trial of items found: the last result, the total of the clearing items' own sums, and the bit position after what was sent, or why not all was.
+// What a trial of items found: the last result, the total of the clearing items' own sums, the bit position after what was sent, and whether all fits.
+// Stays: a flag beside the position, since a Result in its place was tried, and misses a bar of speed: 64 small items took 2.5 microseconds in place of 2.2.
 #[derive(Clone, Copy)]
 pub struct Found {
     pub previous: u64,
     pub total: u64,
-    pub sent: Result<u64, NotSent>,
+    pub at: u64,
+    pub fits: bool,
 }
 
 // Runs a table of items over a page, and writes the packet of what they send at the front of the buffer.
@@ -165,12 +154,14 @@ fn written(
     bytes: &[u8],
     buffer: &mut [u8],
 ) -> Result<Packet, NotBuilt>
-    requires { (IfOk found.sent (λ at. at ≤ 8 * most_data)) × (length bytes.now ≡ most_data) }
+    requires { (found.at ≤ 8 * most_data) × (length bytes.now ≡ most_data) }
     ensures { WrittenPromise found next apid bytes.now buffer.old result buffer.new }
 {
-    let at = found.sent?;
+    if !found.fits {
+        return Err(NotBuilt::TooLarge);
+    }
     next?;
-    let end = ((at + 7) / 8) as usize;
+    let end = ((found.at + 7) / 8) as usize;
     let Ok(count) = packet::write(buffer, apid, &bytes[..end]) else {
         return Err(NotBuilt::BufferTooShort);
     };

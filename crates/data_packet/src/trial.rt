@@ -4,12 +4,13 @@ ghost use Rattle.ground.specs.Bits.{bits_of};
 ghost use Rattle.ground.specs.Choice.{pick};
 ghost use Rattle.pages.specs.Meaning.{cells_of, last_of, walk_at};
 ghost use Rattle.pages.specs.Passes.{pass_of};
+ghost use Rattle.item.specs.Answers.{sent_paper};
 ghost use Rattle.item.specs.Filling.{Filled};
 ghost use Rattle.item.specs.Meaning.{window_of};
 ghost use Rattle.data_packet.specs.Meaning.{most_items, result_of};
 ghost use Rattle.data_packet.specs.Running.{Inside};
 ghost use Rattle.data_packet.specs.Settling.{trial_pass};
-ghost use Rattle.data_packet.specs.Steps.{LeadingPromise, TrialPromise, TryPromise, NextPromise, most_data, most_sum, most_sums};
+ghost use Rattle.data_packet.specs.Steps.{LeadingPromise, TrialPromise, TryPromise, found_after, most_data, most_sum, most_sums};
 
 use crate::Found;
 use item::{NotSent, adds, send, window_of};
@@ -37,7 +38,8 @@ pub(crate) fn trial(memory: &mut [u32], page: bool, items: &[u64], bytes: &mut [
     let mut found = Found {
         previous: 0,
         total: 0,
-        sent: Ok(8),
+        at: 8,
+        fits: true,
     };
     for item in items {
         found = try_item(memory, page, *item, found, bytes);
@@ -54,24 +56,20 @@ fn try_item(memory: &mut [u32], page: bool, item: u64, found: Found, bytes: &mut
     let own = pass_window(memory, page, trial_pass(window.clear), window);
     let previous = result_of(item, found.previous, own);
     let total = total_of(found.total, window.clear, own);
-    let sent = send_next(bytes, found.sent, item, previous);
+    let sent = send(bytes, found.at, item, previous);
+    found_after(found, previous, total, sent)
+}
+
+// What was found with one item more: its result, the total with it, and where it was sent.
+fn found_after(found: Found, previous: u64, total: u64, sent: Result<u64, NotSent>) -> Found
+    ensures { result ≡ found_after found previous total (sent_paper sent) }
+{
     Found {
         previous,
         total,
-        sent,
+        at: sent.unwrap_or(found.at),
+        fits: found.fits && sent.is_ok(),
     }
-}
-
-// An item's result sent behind what was sent before it, where all of that was.
-fn send_next(
-    bytes: &mut [u8],
-    sent: Result<u64, NotSent>,
-    item: u64,
-    own: u64,
-) -> Result<u64, NotSent>
-    ensures { NextPromise bytes.old sent item own result bytes.new }
-{
-    send(bytes, sent?, item, own)
 }
 
 // An item's result: its own sum, and the previous item's result where it adds.

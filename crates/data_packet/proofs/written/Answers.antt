@@ -7,5 +7,5 @@ use Rattle.data_packet.proofs.written.Goals as goal
 pub returns-in_default : goal.returns-in_default
 returns-in_default c =
     let a = c.args in
-    written_short a.found a.next a.apid a.bytes.now a.buffer.now c.in_ok-at.at (search rules) c.requires.1
-    (λ i. (c.type_inv.bytes i).fits) _ c.in_ok-at.was c.in_ok-next.was c.in_default.ensures
+    written_short a.found a.next a.apid a.bytes.now a.buffer.now c.requires.0 c.requires.1
+    (λ i. (c.type_inv.bytes i).fits) _ (search rules) c.in_ok-next.was c.in_default.ensures
