@@ -85,6 +85,7 @@ pub enum Pass {
 }
 
 // A pass as three flags: whether marked words are not seen, whether words are cleared (on trial by a mark), and whether marks are settled.
+// Stays: what may not change needs it: the laws of specs/Flags (`pass_by_lem`, `left_by_lem`, `value_by`), which speak of these three.
 #[derive(Clone, Copy)]
 struct Flags {
     trial: bool,

@@ -16,6 +16,7 @@ pub(crate) fn last_cell(window: Window) -> usize
 }
 
 // Whether every word of a window is at most full.
+// Stays beside `walk_window`: the new form is no plainer: one walk for a memory that is read and one that is written needs a trait, two types and their laws.
 pub(crate) fn sound_rows(memory: &[u32], page: bool, window: Window) -> bool
     requires { last_of window < length memory.now / 2 }
     ensures { result ≡ sound_of memory.now page (cells_of window) }
