@@ -114,7 +114,7 @@ pub(crate) fn place(buffer: &mut [u8], at: u64, bits: Held) -> Result<u64, NotPa
 fn to_byte_end(at: u64) -> u32
     ensures { (result ≡ to_byte_end at) × (result < 8) }
 {
-    room_at(at) % 8
+    ((8 - at % 8) % 8) as u32
 }
 
 // Bits that end where a byte ends: as many as the first byte has room for, then whole bytes.
