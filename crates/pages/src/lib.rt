@@ -140,12 +140,7 @@ pub fn take(memory: &mut [u32], second: bool, window: Window) -> Result<u64, Not
     ensures { TakePromise memory.old second window result memory.new }
 {
     check(memory, second, window)?;
-    let flags = Flags {
-        trial: false,
-        clear: window.clear,
-        settle: false,
-    };
-    Ok(walk_window(memory, second, flags, window))
+    Ok(walk_window(memory, second, false, window.clear, false, window))
 }
 
 // Whether a window of a page may be taken: its last cell inside the page, and none of its words above full.
@@ -176,5 +171,13 @@ pub fn go_over(
     if words / 2 <= last_cell(window) {
         return Err(WrongCell);
     }
-    Ok(walk_window(memory, second, flags_of(rule), window))
+    let flags = flags_of(rule);
+    Ok(walk_window(
+        memory,
+        second,
+        flags.trial,
+        flags.clear,
+        flags.settle,
+        window,
+    ))
 }
