@@ -61,7 +61,8 @@ pub open_number_one : (answer : Result (Unit {0}) WrongMemory) {m n : ℕ} → m
 open_number_one answer p q = one_value p q
 
 -- one number for an increment's answer
-pub increment_number_one : (answer : Result (Unit {0}) NotIncremented) {m n : ℕ} → m ≡ number_of (increment_paper answer) → n ≡ number_of (increment_paper answer)
+pub increment_number_one : (answer : Result (Unit {0}) NotIncremented) {m n : ℕ} → m ≡ number_of (increment_paper answer)
+    → n ≡ number_of (increment_paper answer)
     → m ≡ n
 increment_number_one answer p q = one_value p q
 

@@ -82,7 +82,8 @@ last_is number count h e = e ∙ ap (λ (n : ℕ). to_bits count (number % n)) (
 pub held_length : (count number : ℕ) {l : List ℕ} → to_bits count number ≡ l → count ≡ length l
 held_length count number e = sym (length-to_bits count number) ∙ ap length e
 
-module _ (number count more width : ℕ) {k l : List ℕ} (a : number < 2 ^ count) (b : more < 2 ^ width) (p : to_bits count number ≡ k) (q : to_bits width more ≡ l)
+module _ (number count more width : ℕ) {k l : List ℕ} (a : number < 2 ^ count) (b : more < 2 ^ width) (p : to_bits count number ≡ k)
+    (q : to_bits width more ≡ l)
     (few : length k + length l ≤ 40) where
   -- so many bits
   together : count + width ≤ 40

@@ -53,7 +53,8 @@ module _ (m w buffer : List ℕ) (number : ℕ) (i : Inputs) (P : PacketOutcome 
   -- a packet ask of any turn
   turn_elim : ((r : Run) → length i.items ≤ most_items → run_items (not (page_in w)) (first_run m) i.items ≡ accepted r
       → turn_of (kept_in w) number (Asked.packet i) ≡ Ok NewAsk → length (data_of i r.bits) + 10 ≤ length buffer → P (built_packet w buffer number i r))
-      → ((total : ℕ) → turn_of (kept_in w) number (Asked.packet i) ≡ Ok (LastAsk total) → length (bytes_in w) ≤ length buffer → P (same_packet m w buffer total))
+      → ((total : ℕ) → turn_of (kept_in w) number (Asked.packet i) ≡ Ok (LastAsk total) → length (bytes_in w) ≤ length buffer
+      → P (same_packet m w buffer total))
       → (t : Result Turn NoTurn) → turn_of (kept_in w) number (Asked.packet i) ≡ t → P (packet_turn_means t m w buffer number i)
   unfolding new_packet_means
   turn_elim built repeated (Ok NewAsk) e =

@@ -21,5 +21,6 @@ Keepable items buffer (accepted v) = (length items ≤ most_items) × (v.written
 Keepable items buffer (refusal n carried) = Unit {0}
 
 -- what a packet ask promises
-pub record PacketPromise (memory state buffer : List ℕ) (number : ℕ) (i : Inputs) (r : Result Answered NotAsked) (memory' state' buffer' : List ℕ) : Type 0 where
+pub record PacketPromise (memory state buffer : List ℕ) (number : ℕ) (i : Inputs) (r : Result Answered NotAsked)
+    (memory' state' buffer' : List ℕ) : Type 0 where
   pub outcome : outcome_of (packet_paper r) (packet_lent memory' state' buffer') ≡ packet_means memory state buffer number i

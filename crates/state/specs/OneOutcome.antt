@@ -20,7 +20,8 @@ pub second_active_one : (state : List ℕ) {r s : Bool} → r ≡ page_in state 
 second_active_one state p q = one_value p q
 
 -- whose turn an ask is
-pub turn_one : (state : List ℕ) (number : ℕ) (asked : Asked) {r s : Result Turn NoTurn} → r ≡ turn_in state number asked → s ≡ turn_in state number asked → r ≡ s
+pub turn_one : (state : List ℕ) (number : ℕ) (asked : Asked) {r s : Result Turn NoTurn} → r ≡ turn_in state number asked
+    → s ≡ turn_in state number asked → r ≡ s
 turn_one state number asked p q = one_value p q
 
 -- whose turn it is, told whether it asks for the same

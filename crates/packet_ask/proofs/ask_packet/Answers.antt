@@ -29,5 +29,8 @@ slice_bounds-bytes-end-in-NewAsk c = sym (length-take-le _ _ (keepable _ _ _ _ _
 
 pub keep_packet-requires : goal.keep_packet-requires
 keep_packet-requires c =
-    let can = keepable _ _ _ _ _ _ _ c.in_ok-packet-in-NewAsk.ensures in
-    (admits_long _ _ (sym c.in_ok-admit.ensures.answer), can.0, omega (arith, can.2, length-take-le c.in_ok-packet-in-NewAsk.packet.written c.build.new.buffer can.1))
+    let can = keepable _ _ _ _ _ _ _ c.in_ok-packet-in-NewAsk.ensures in (
+      admits_long _ _ (sym c.in_ok-admit.ensures.answer),
+      can.0,
+      omega (arith, can.2, length-take-le c.in_ok-packet-in-NewAsk.packet.written c.build.new.buffer can.1),
+    )

@@ -42,6 +42,7 @@ returns-then-bits-gt0 c =
     let p = c.put_part in
     let q = c.put_bytes in
     let a = c.args in
-    put_both a.buffer.now p.new.buffer q.new.buffer a.at (8 * (a.at / 8 + 1)) b.number b.count (8 - a.at % 8) (b.count - r.result) (omega (arith, n, c.requires.0))
+    put_both a.buffer.now p.new.buffer q.new.buffer a.at (8 * (a.at / 8 + 1)) b.number b.count (8 - a.at % 8) (b.count - r.result)
+    (omega (arith, n, c.requires.0))
     (omega arith) (omega (arith, n, c.requires.1, r.ensures.0, t)) p.ensures q.ensures
     ∙ ap (put_over (bits_of a.buffer.now) a.at) c.bits.view_is

@@ -24,7 +24,8 @@ returns-then-bit-eq0 c =
     let here = c.args.here in
     let l = c.loop-ones in
     answer_by (l.invariant.1 ∙ far_in _ _ _ l.ones _ (omega arith))
-    (run_ends _ (here.at + l.ones) _ c.bit.result here.end_is (omega arith) (bit_behind here c.behind-passed.result l.ones c.behind-passed.ensures c.bit.ensures.0) _ _ l.ones
+    (run_ends _ (here.at + l.ones) _ c.bit.result here.end_is (omega arith)
+    (bit_behind here c.behind-passed.result l.ones c.behind-passed.ensures c.bit.ensures.0) _ _ l.ones
     c.if-bit-eq0.true)
     (answer_at here c.behind.result (c.behind.ensures.0 ∙ c.behind-passed.ensures.0) (omega arith) (c.behind.ensures.2 ∙ c.behind-passed.ensures.2)
     (c.behind.ensures.3 ∙ c.behind-passed.ensures.3) (λ (d end : ℕ) (k : List ℕ). run_answer d end c.args.sign l.ones k) c.after_run.ensures)
