@@ -74,8 +74,8 @@ pub struct Unpacked {
     pub next: u64,
 }
 
-// Why nothing was read; of what was read nothing is asked. It stays beside `?`: document 01 names `let .. else` as the form in which
-// a rate takes the reader's answer apart, and the refusal is handed on.
+// Why nothing was read; of what was read nothing is asked.
+// Stays: a rule of the project: document 01 names `let .. else` for a rate (docs/DECISIONS.md, "The forms that document 01 names"), which needs the refusal.
 pub fn reason<T: Copy>(answer: Result<T, Refusal>) -> Refusal
     ensures { result ≡ reason_of answer }
 {

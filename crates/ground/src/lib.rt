@@ -26,7 +26,7 @@ pub fn number_of<T: Copy, E: Numbered + Copy>(answer: Result<T, E>) -> u8
 }
 
 // Whether so many bytes from a place on lie in the bytes.
-// Stays: place and size are what is asked about, not the bounds of a buffer (`LiesPromise`).
+// Stays: what may not change: `LiesPromise` and docs/CONTRACTS.md have place and size; they are what is asked about, and no buffer's bounds.
 pub fn lies_in(bytes: &[u8], at: usize, size: usize) -> bool
     ensures { LiesPromise bytes.now at size result }
 {

@@ -6,6 +6,9 @@ ghost use Rattle.code.specs.Shapes.{Drop};
 ghost use Rattle.lines.specs.Meaning.{enough, shortest, code_text, value_text, number_text};
 ghost use Rattle.lines.specs.Texts.{Put};
 
+// Stays, for room, place and number together, and for the number's range: the new form is no plainer: `put_line` alone makes the number, and what
+// each call here asks of `pack`, `code` and `io` wants it plain, and the room's part by itself.
+
 // Puts the line of a number in range: the value and both codes.
 pub(crate) fn put_number(room: &mut [u8], at: usize, v: i32) -> usize
     requires { (at + enough ≤ length room.old) × (nat_abs v ≤ largest) }

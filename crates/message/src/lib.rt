@@ -13,7 +13,7 @@ use parts::{data_size, number_in, sayable_as};
 #[derive(Clone, Copy, Debug, PartialEq, Eq)]
 pub struct Message {
     pub address: u16,
-    // Stays: `write` promises to refuse a tag over 3 by 7 (`write_means`), so a tag is a number and no enum.
+    // Stays: what may not change: a tag is one number for `read` and `write` (`message_reads_back`), and `write` refuses one over 3 by 7 (`write_means`).
     pub tag: u8,
     pub value: u64,
     pub used: usize,

@@ -20,6 +20,7 @@ impl Model for Held {
     ghost invariant = { λ held. (held.number < 2 ^ held.count) × (held.count ≤ 40) };
 }
 
+// Stays, for the count that its makers ask: the new form is no plainer: they make the value whose invariant it is.
 impl Held {
     // A number that so many bits hold.
     pub(crate) fn of(number: u64, count: u32) -> Held

@@ -9,6 +9,9 @@ ghost use Rattle.pack.specs.Steps.{PlacePromise, byte_bits};
 use crate::held::Held;
 use code::NotPacked;
 
+// Stays, for drop, sign and magnitude together: the new form is no plainer: three calls hand them on, each takes them apart, and a sign is a number by
+// `sign_one`.
+
 // The code of a sign and a magnitude inside the rule.
 pub(crate) fn code(drop: u8, sign: u32, m: u32) -> Held
     requires { Drop drop × (sign < 2) × (m ≤ largest) }

@@ -1,6 +1,6 @@
 -- As many bytes are kept as are said, and a packet's ask is kept part after part.
 -- Assumes nothing.
-use mathlib.Core.Path.{◌≡◌, ap, sym, ◌∙◌}
+use mathlib.Core.Path.{◌≡◌, refl, ap, sym, subst, ◌∙◌}
 use mathlib.Core.List.{List, ◌++◌}
 use Prim.Native.Nat.{ℕ, suc, ◌+◌, ◌-◌, ◌≤◌, ◌<◌}
 use native.Mathlib.Omega.{arith}
@@ -10,9 +10,15 @@ use Rattle.std.proofs.lemmas.List.{set_at}
 use Rattle.std.specs.Prelude.{map}
 use lib.ListN.{drop, get_or, get_or-map, length, length-drop, length-map, length-take, set, take}
 use borrow.Rule.Slice.PartMut.{put_mid}
-use Rattle.ground.specs.Putting.{put}
+use Rattle.ground.specs.Putting.{Copied, copied_more, put}
 use Rattle.item.specs.Inputs.{Inputs}
 use Rattle.state.specs.Words.{byte_count_at, byte_count_in, byte_of, bytes_at, bytes_in, items_at, keep_inputs, keep_packet_in, state_words}
+
+-- one word more is copied
+pub copied_step : {room₀ : List ℕ} {at : ℕ} {text room room' : List ℕ} {i : ℕ} → at + length text ≤ length room₀ → Copied room₀ at text room i
+    → i < length text → room' ≡ set room (at + i) (get_or text i 0) → Copied room₀ at text room' (i + 1)
+copied_step {room₀} {at} {text} {room} {room'} {i} n p h e =
+    subst (λ (x : List ℕ). Copied room₀ at text x (i + 1)) (sym e) (copied_more (get_or text i 0) n p h refl)
 
 -- the bytes that are kept
 pub bytes_long : (l : List ℕ) → state_words ≤ length l → length (bytes_in l) ≡ byte_count_in l

@@ -89,7 +89,7 @@ fn hand_out(words: &[u64], bytes: &mut [u8])
 }
 
 // Keeps a packet's ask: its number, its inputs, its total and its bytes.
-// Stays: the new form is no plainer: words to be written, in a type as `state::Lent`, are taken out of it again before each store.
+// Stays, for state, number and inputs too: the new form is no plainer: `data_packet::build` takes inputs without a number. Words to be written, in a type as `state::Lent`, are taken out of it again before each store.
 pub(crate) fn keep_packet(state: &mut [u64], number: u16, inputs: Inputs, total: u64, bytes: &[u8])
     requires { (state_words ≤ length state.old) × (length inputs.items.now ≤ most_items) × (length bytes.now ≤ most_bytes) }
     ensures { state.new ≡ keep_packet_in state.old number (inputs_of inputs.entry) total bytes.now }

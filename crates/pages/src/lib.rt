@@ -85,7 +85,7 @@ pub enum Pass {
 }
 
 // A pass as three flags: whether marked words are not seen, whether words are cleared (on trial by a mark), and whether marks are settled.
-// Stays: what may not change needs it: the laws of specs/Flags (`pass_by_lem`, `left_by_lem`, `value_by`), which speak of these three.
+// Stays: tried, and it misses a bar of speed: an enum of the pass made an ask of 4 cells 1.5 ns slower (docs/DECISIONS.md, `pages`); specs/Flags has their laws.
 #[derive(Clone, Copy)]
 struct Flags {
     trial: bool,

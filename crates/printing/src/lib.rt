@@ -66,6 +66,7 @@ fn print_runs(line: Line, piece: &[u8], room: &mut [u8]) -> Printed
     let mut rest = piece;
     let mut put = 0usize;
     let mut written = true;
+    // Stays: the new form is no plainer: a turn uses as much of the rest as the room takes, which only the run tells, so no iterator can cut it.
     while !rest.is_empty() {
         let ran = run(current, rest, room);
         let given = handed(written, room, ran.put);

@@ -66,6 +66,7 @@ impl From<OutOfRange> for NotFormed {
 pub fn reading(bytes: &[u8], at: u64, drop: u8) -> Result<Counts, Refusal>
     ensures { ReadingPromise bytes.now at drop result }
 {
+    // Stays: a rule of the project: document 01 names `let .. else` here (docs/DECISIONS.md, "The forms that document 01 names").
     let answer = unpack::shape(bytes, at, drop);
     let Ok(read) = answer else {
         return Err(code::reason(answer));
@@ -83,6 +84,7 @@ pub fn reading(bytes: &[u8], at: u64, drop: u8) -> Result<Counts, Refusal>
 pub fn rate(bytes: &[u8], at: u64, drop: u8, level: u8) -> Result<Formed, NotFormed>
     ensures { RatePromise bytes.now at drop level result }
 {
+    // Stays: the same rule.
     let answer = reading(bytes, at, drop);
     let Ok(counts) = answer else {
         return Err(NotFormed::from(code::reason(answer)));

@@ -20,7 +20,7 @@ pub const MOST_ITEMS: usize = 64;
 pub const MOST_BYTES: usize = 243;
 
 // What is kept, by its word: a window's ask, a packet's.
-// Stays: what a state's words say may not change (`asked_in` of specs/Words).
+// Stays: what may not change: a state is lent words, and what each says is `asked_in`, `kept_in` of specs/Words; so of the places below.
 pub const WINDOW_ASK: u64 = 1;
 
 pub const PACKET_ASK: u64 = 2;

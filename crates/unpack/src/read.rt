@@ -12,6 +12,8 @@ ghost use Rattle.unpack.specs.Steps.{code_answer, sign_answer, run_answer, led_a
 use crate::cursor::Cursor;
 use code::{GREATEST_PLACE, LONGEST_RUN, Refusal, Shape};
 
+// Stays, for a sign below 2: what may not change: `Shape.sign` is a number (`ShapePromise`).
+
 // The code at a place; at the end itself no bit is left.
 pub(crate) fn code(here: Cursor) -> Result<Shape, Refusal>
     ensures { shape_paper result ≡ code_answer here.entry.drop here.entry.end (bits_left here.entry) }
