@@ -33,7 +33,7 @@ pub fn print_header() -> Output
 {
     let mut room = io::large_buffer();
     let put = put_header(&mut room);
-    handed(true, &room, put)
+    handed(true, &room[..put])
 }
 
 // Prints the answers of the lines that end in a piece of the input, as long as they are taken, and gives the line that does not.
@@ -51,7 +51,7 @@ pub fn print_last(line: Line) -> usize
     if line.begun {
         let mut room = io::large_buffer();
         let said = put_answer(line, &mut room);
-        handed(true, &room, said).put
+        handed(true, &room[..said]).put
     } else {
         0
     }
@@ -69,7 +69,7 @@ fn print_runs(line: Line, piece: &[u8], room: &mut [u8]) -> Printed
     // Stays: the new form is no plainer: a turn uses as much of the rest as the room takes, which only the run tells, so no iterator can cut it.
     while !rest.is_empty() {
         let ran = run(current, rest, room);
-        let given = handed(written, room, ran.put);
+        let given = handed(written, &room[..ran.put]);
         put = put.saturating_add(given.put);
         current = ran.line;
         written = given.written;
@@ -82,14 +82,13 @@ fn print_runs(line: Line, piece: &[u8], room: &mut [u8]) -> Printed
     }
 }
 
-// Hands the bytes at the front of a room over, where all so far was written; how many they are, and whether all is written now.
-fn handed(so_far: bool, room: &[u8], count: usize) -> Output
-    requires { count ≤ length room.now }
-    ensures { result.put ≡ count }
+// Hands bytes over, where all so far was written; how many they are, and whether all is written now.
+fn handed(so_far: bool, bytes: &[u8]) -> Output
+    ensures { result.put ≡ length bytes.now }
 {
-    let written = so_far && io::write_all(STANDARD_OUTPUT, &room[..count]);
+    let written = so_far && io::write_all(STANDARD_OUTPUT, bytes);
     Output {
-        put: count,
+        put: bytes.len(),
         written,
     }
 }

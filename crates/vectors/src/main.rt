@@ -50,9 +50,7 @@ fn answer(head: &[u8; 11], bytes: &[u8]) {
 
 // The bit position, most significant byte first.
 fn position(head: &[u8; 11]) -> u64 {
-    let mut at = 0;
-    for byte in &head[3..] {
-        at = (at << 8) | u64::from(*byte);
-    }
-    at
+    let mut position = [0; 8];
+    position.copy_from_slice(&head[3..]);
+    u64::from_be_bytes(position)
 }

@@ -1,9 +1,11 @@
 -- `printing::print_runs` meets its contract. The loop's invariant: what is left comes to the same as the whole piece, and so does its
 -- count; each run gets on, so that the measure is the bytes that are left.
 -- Assumes nothing.
+use mathlib.Core.Path.{◌∙◌}
+use Rattle.std.proofs.lemmas.List.{length-take-le}
 use Rattle.printing.proofs.Pieces.{gets_on, comes_to, counts_to, all_taken}
 use borrow.Author.Rules.{rules}
-use Rattle.lines.specs.Moving.{run_used}
+use Rattle.lines.specs.Moving.{run_put, run_used}
 use Rattle.printing.proofs.print_runs.Goals as goal
 
 pub slice_bounds-rest-count : goal.slice_bounds-rest-count
@@ -17,10 +19,11 @@ loop-rest-smaller c = gets_on c.loop-rest.rest.now c.run-ran.ensures (search rul
 
 pub loop-rest-preserved : goal.loop-rest-preserved
 loop-rest-preserved c =
-    let l = c.loop-rest in (
+    let l = c.loop-rest in
+    let front = length-take-le c.run-ran.result.put c.run-ran.new.room (run_put c.run-ran.ensures) in (
       search rules,
       comes_to l.rest.now c.run-ran.ensures l.invariant.1,
-      counts_to l.rest.now c.run-ran.ensures l.put _ c.saturating_add-put.ensures c.handed-given.ensures l.invariant.2,
+      counts_to l.rest.now c.run-ran.ensures l.put _ c.saturating_add-put.ensures (c.handed-given.ensures ∙ front) l.invariant.2,
       search rules,
     )
 
