@@ -3,8 +3,8 @@
 use Rattle.std.specs.Prelude.{◌≡◌, refl, List, [], ◌∷◌, ℕ, zero, suc, ◌≤◌, ◌<◌, length, get_or, Result, Ok, Err}
 use Rattle.std.proofs.Common.{◌∙◌, not-suc-le-zero, le_of_suc-le-suc, arith, lt-ltb, le-ltb}
 use Rattle.ground.specs.Refusals.{one_result}
-use Rattle.cadence.specs.declared.OutOfRange.{OutOfRange}
-use Rattle.cadence.specs.Answers.{out_of_range}
+use Rattle.cadence.specs.declared.NoLevel.{NoLevel}
+use Rattle.cadence.specs.Answers.{no_level}
 use Rattle.cadence.specs.Meaning.{lengths, length_of}
 use Rattle.cadence.specs.Promise.{SecondsPromise}
 
@@ -29,9 +29,9 @@ pub lasts : (level : ℕ) → level ≤ 7 → Lasts level
 lasts level h = let p = entry lengths (omega arith) level (omega arith) in record { some = p.0; hour = p.1 }
 
 -- up to level 7 the length is given
-pub seconds_given : {level : ℕ} {r : Result ℕ OutOfRange} → level ≤ 7 → SecondsPromise level r → r ≡ Ok (length_of level)
-seconds_given {level} h p = one_result out_of_range (p.answer ∙ rw (le-ltb 7 level h)) refl
+pub seconds_given : {level : ℕ} {r : Result ℕ NoLevel} → level ≤ 7 → SecondsPromise level r → r ≡ Ok (length_of level)
+seconds_given {level} h p = one_result no_level (p.answer ∙ rw (le-ltb 7 level h)) refl
 
 -- over level 7 it is refused
-pub seconds_refused : {level : ℕ} {r : Result ℕ OutOfRange} → 7 < level → SecondsPromise level r → r ≡ Err (record {})
-seconds_refused {level} h p = one_result out_of_range (p.answer ∙ rw (lt-ltb 7 level h)) refl
+pub seconds_refused : {level : ℕ} {r : Result ℕ NoLevel} → 7 < level → SecondsPromise level r → r ≡ Err (record {})
+seconds_refused {level} h p = one_result no_level (p.answer ∙ rw (lt-ltb 7 level h)) refl

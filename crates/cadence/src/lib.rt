@@ -3,7 +3,7 @@
 
 ghost use Rattle.std.specs.Prelude.{◌≡◌, ◌<◌, ◌≤◌, MatchResult};
 ghost use Rattle.cadence.specs.Meaning.{Highest};
-ghost use Rattle.cadence.specs.Answers.{out_of_range};
+ghost use Rattle.cadence.specs.Answers.{no_level, out_of_range};
 ghost use Rattle.cadence.specs.Promise.{SecondsPromise, BeginningPromise, EndingPromise};
 
 use ground::Numbered;
@@ -11,7 +11,19 @@ use ground::Numbered;
 // The seconds of the hour: a second's number is below it.
 const HOUR: u16 = 3600;
 
-// A second over 3,599, or a level over 7.
+// A level over 7.
+#[derive(Clone, Copy, Debug, PartialEq, Eq)]
+pub struct NoLevel;
+
+impl Numbered for NoLevel {
+    ghost refusals = { no_level };
+
+    fn number(&self) -> u8 {
+        19
+    }
+}
+
+// A second over 3,599: the number of a level over 7.
 #[derive(Clone, Copy, Debug, PartialEq, Eq)]
 pub struct OutOfRange;
 
@@ -19,12 +31,12 @@ impl Numbered for OutOfRange {
     ghost refusals = { out_of_range };
 
     fn number(&self) -> u8 {
-        19
+        NoLevel.number()
     }
 }
 
 // How many seconds a level lasts: 1, 5, 10, 30, 60, 300, 600 or 3600.
-pub fn level_seconds(level: u8) -> Result<u16, OutOfRange>
+pub fn level_seconds(level: u8) -> Result<u16, NoLevel>
     ensures { SecondsPromise level result }
 {
     match level {
@@ -36,7 +48,7 @@ pub fn level_seconds(level: u8) -> Result<u16, OutOfRange>
         5 => Ok(300),
         6 => Ok(600),
         7 => Ok(3600),
-        _ => Err(OutOfRange),
+        _ => Err(NoLevel),
     }
 }
 

@@ -5,11 +5,11 @@ mod band;
 pub mod record;
 
 ghost use Rattle.std.specs.Prelude.{◌≡◌};
-ghost use Rattle.rate.specs.declared.NotFormed.TheVariants.{Refused, OutOfRange as NoLevel};
+ghost use Rattle.rate.specs.declared.NotFormed.TheVariants.{Refused, OutOfRange};
 ghost use Rattle.rate.specs.Answers.{not_formed};
 ghost use Rattle.rate.specs.Promise.{ReadingPromise, RatePromise};
 
-use cadence::OutOfRange;
+use cadence::NoLevel;
 use code::Refusal;
 use ground::Numbered;
 use record::{Rate, Reading};
@@ -54,10 +54,10 @@ impl From<Refusal> for NotFormed {
     }
 }
 
-impl From<OutOfRange> for NotFormed {
-    ghost from_gives = { λ why result. result ≡ NoLevel };
+impl From<NoLevel> for NotFormed {
+    ghost from_gives = { λ why result. result ≡ OutOfRange };
 
-    fn from(_why: OutOfRange) -> NotFormed {
+    fn from(_why: NoLevel) -> NotFormed {
         Self::OutOfRange
     }
 }
