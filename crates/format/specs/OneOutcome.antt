@@ -3,8 +3,9 @@
 use Rattle.std.specs.Prelude.{◌≡◌, refl, ℕ, ◌^◌, Result}
 use Rattle.ground.specs.Paper.{number_of, one_value}
 use Rattle.ground.specs.Refusals.{one_result}
+use Rattle.format.specs.declared.CodeTooLarge.{CodeTooLarge}
 use Rattle.format.specs.declared.TooLarge.{TooLarge}
-use Rattle.format.specs.Answers.{too_large, code16_paper, code8_paper, code24_paper, count24_paper}
+use Rattle.format.specs.Answers.{code_too_large, too_large, code16_paper, code8_paper, code24_paper, count24_paper}
 use Rattle.format.specs.Codes.{takes_one}
 use Rattle.format.specs.Meaning.{float_value}
 use Rattle.format.specs.Promise.{Float16CodePromise, Float16CountPromise, Float8CodePromise, Float8CountPromise, Int24CodePromise, Int24CountPromise}
@@ -32,8 +33,8 @@ pub int24_code_one : {count : ℕ} {x y : Result ℕ TooLarge} → Int24CodeProm
 int24_code_one p q = one_result too_large p.answer q.answer
 
 -- one count for a 24-bit integer
-pub int24_count_one : {code : ℕ} {x y : Result ℕ TooLarge} → Int24CountPromise code x → Int24CountPromise code y → x ≡ y
-int24_count_one p q = one_result too_large p.answer q.answer
+pub int24_count_one : {code : ℕ} {x y : Result ℕ CodeTooLarge} → Int24CountPromise code x → Int24CountPromise code y → x ≡ y
+int24_count_one p q = one_result code_too_large p.answer q.answer
 
 -- one number for a 16-bit float's answer
 pub code16_number_one : (answer : Result ℕ TooLarge) {x y : ℕ} → x ≡ number_of (code16_paper answer) → y ≡ number_of (code16_paper answer) → x ≡ y
@@ -48,5 +49,5 @@ pub code24_number_one : (answer : Result ℕ TooLarge) {x y : ℕ} → x ≡ num
 code24_number_one answer p q = one_value p q
 
 -- one number for a 24-bit count's answer
-pub count24_number_one : (answer : Result ℕ TooLarge) {x y : ℕ} → x ≡ number_of (count24_paper answer) → y ≡ number_of (count24_paper answer) → x ≡ y
+pub count24_number_one : (answer : Result ℕ CodeTooLarge) {x y : ℕ} → x ≡ number_of (count24_paper answer) → y ≡ number_of (count24_paper answer) → x ≡ y
 count24_number_one answer p q = one_value p q

@@ -1,6 +1,7 @@
 -- What each public call promises.
 -- Assumes nothing.
 use Rattle.std.specs.Prelude.{◌≡◌, ℕ, ◌^◌, Result}
+use Rattle.format.specs.declared.CodeTooLarge.{CodeTooLarge}
 use Rattle.format.specs.declared.TooLarge.{TooLarge}
 use Rattle.format.specs.Answers.{code16_paper, code8_paper, code24_paper, count24_paper}
 use Rattle.format.specs.Meaning.{float_value, Takes, int24_means}
@@ -26,5 +27,5 @@ pub record Int24CodePromise (count : ℕ) (r : Result ℕ TooLarge) : Type 0 whe
   pub answer : code24_paper r ≡ int24_means count
 
 -- the code itself; 12 above 16,777,215
-pub record Int24CountPromise (code : ℕ) (r : Result ℕ TooLarge) : Type 0 where
+pub record Int24CountPromise (code : ℕ) (r : Result ℕ CodeTooLarge) : Type 0 where
   pub answer : count24_paper r ≡ int24_means code

@@ -5,8 +5,9 @@ use Rattle.std.proofs.Common.{sym, ap, ◌∙◌, subst}
 use Rattle.ground.specs.Choice.{pick_elim}
 use Rattle.ground.specs.Paper.{Paper, accepted, refused, refused_not, accepted_same}
 use Rattle.ground.specs.Refusals.{one_result}
+use Rattle.format.specs.declared.CodeTooLarge.{CodeTooLarge}
 use Rattle.format.specs.declared.TooLarge.{TooLarge}
-use Rattle.format.specs.Answers.{too_large, code16_paper, code8_paper}
+use Rattle.format.specs.Answers.{code_too_large, too_large, code16_paper, code8_paper}
 use Rattle.format.specs.Meaning.{float_value, Takes, int24_means}
 use Rattle.format.specs.Promise.{Float16CodePromise, Float16CountPromise, Float8CodePromise, Float8CountPromise, Int24CodePromise, Int24CountPromise}
 use Rattle.format.specs.Widths.{float_back}
@@ -30,7 +31,7 @@ itself {n} {x} =
     (λ _ e. absurd (refused_not (sym e))) (λ _ e. accepted_same e)
 
 -- the count of a count's 24-bit integer is that count
-pub int24_again : {count code : ℕ} {r : Result ℕ TooLarge} → Int24CodePromise count (Ok code) → Int24CountPromise code r → r ≡ Ok count
+pub int24_again : {count code : ℕ} {r : Result ℕ CodeTooLarge} → Int24CodePromise count (Ok code) → Int24CountPromise code r → r ≡ Ok count
 int24_again {count} {code} p q =
     let e : code ≡ count = itself p.answer in
-    one_result too_large (q.answer ∙ ap int24_means e ∙ sym p.answer ∙ ap accepted e) refl
+    one_result code_too_large (q.answer ∙ ap int24_means e ∙ sym p.answer ∙ ap accepted e) refl

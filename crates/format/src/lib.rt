@@ -4,13 +4,13 @@
 ghost use Rattle.std.specs.Prelude.{◌≡◌, ◌/◌, ◌^◌, ◌<◌, ◌≤◌};
 ghost use Rattle.ground.specs.Refusals.{on_paper};
 ghost use Rattle.format.specs.Meaning.{Takes, float_value};
-ghost use Rattle.format.specs.Answers.{too_large};
+ghost use Rattle.format.specs.Answers.{code_too_large, too_large};
 ghost use Rattle.format.specs.Promise.{Float16CodePromise, Float16CountPromise, Float8CodePromise, Float8CountPromise};
 ghost use Rattle.format.specs.Promise.{Int24CodePromise, Int24CountPromise};
 
 use ground::Numbered;
 
-// A count too large for its format, or a code above its limit.
+// A count too large for its format.
 #[derive(Clone, Copy, Debug, PartialEq, Eq)]
 pub struct TooLarge;
 
@@ -19,6 +19,18 @@ impl Numbered for TooLarge {
 
     fn number(&self) -> u8 {
         12
+    }
+}
+
+// A code above the largest 24-bit integer: the number of a count too large.
+#[derive(Clone, Copy, Debug, PartialEq, Eq)]
+pub struct CodeTooLarge;
+
+impl Numbered for CodeTooLarge {
+    ghost refusals = { code_too_large };
+
+    fn number(&self) -> u8 {
+        TooLarge.number()
     }
 }
 
@@ -64,17 +76,17 @@ pub fn int24_code(count: u64) -> Result<u32, TooLarge>
     ensures { Int24CodePromise count result }
 {
     match u32::try_from(count) {
-        Ok(integer) => int24_count(integer),
-        Err(_) => Err(TooLarge),
+        Ok(integer) if integer <= LAST24 => Ok(integer),
+        _ => Err(TooLarge),
     }
 }
 
 // The count that a 24-bit integer means: the code itself.
-pub fn int24_count(code: u32) -> Result<u32, TooLarge>
+pub fn int24_count(code: u32) -> Result<u32, CodeTooLarge>
     ensures { Int24CountPromise code result }
 {
     if LAST24 < code {
-        return Err(TooLarge);
+        return Err(CodeTooLarge);
     }
     Ok(code)
 }
