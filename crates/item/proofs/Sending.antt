@@ -23,6 +23,8 @@ use Rattle.code.specs.Promise.{PackPromise}
 use Rattle.format.specs.Answers.{too_large}
 use Rattle.format.specs.declared.TooLarge as format
 use Rattle.format.specs.Promise.{Float16CodePromise, Int24CodePromise}
+use Rattle.logarithm.specs.Answers as logarithm_answers
+use Rattle.logarithm.specs.declared.TooLarge as logarithm
 use Rattle.logarithm.specs.Promise.{Log8CodePromise}
 use Rattle.format.specs.Floats.{takes_means}
 use Rattle.logarithm.specs.Logarithms.{log8_means_lem}
@@ -102,9 +104,10 @@ unfolding format_bits
 float_known r {float} p = ap (mapped (to_bits 16)) (sym (takes_means 12 (2 ^ 27) r (lit< tt) (lit≤ tt) (on_paper too_large float) p.answer))
 
 -- the logarithm byte that was answered
-pub logarithm_known : (r : ℕ) {log8 : Result ℕ format.TooLarge} → Log8CodePromise r log8 → format_bits 1 r ≡ mapped (to_bits 8) (on_paper too_large log8)
+pub logarithm_known : (r : ℕ) {log8 : Result ℕ logarithm.TooLarge} → Log8CodePromise r log8
+    → format_bits 1 r ≡ mapped (to_bits 8) (on_paper logarithm_answers.too_large log8)
 unfolding format_bits
-logarithm_known r {log8} p = ap (mapped (to_bits 8)) (sym (log8_means_lem r (on_paper too_large log8) p.answer))
+logarithm_known r {log8} p = ap (mapped (to_bits 8)) (sym (log8_means_lem r (on_paper logarithm_answers.too_large log8) p.answer))
 
 -- the 24-bit integer that was answered
 pub integer_known : (r : ℕ) {integer : Result ℕ format.TooLarge} → Int24CodePromise r integer

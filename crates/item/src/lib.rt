@@ -41,6 +41,15 @@ impl From<TooLarge> for NotSent {
     }
 }
 
+// Nor is one too large for a logarithm byte.
+impl From<logarithm::TooLarge> for NotSent {
+    ghost from_gives = { λ _ e. e ≡ Large };
+
+    fn from(_why: logarithm::TooLarge) -> NotSent {
+        NotSent::TooLarge
+    }
+}
+
 // Nor is one whose bits were not written: outside the rule of packing is too large for the format.
 impl From<NotPacked> for NotSent {
     ghost from_gives = { λ why e. e ≡ unsent why };

@@ -1,11 +1,14 @@
 -- Each answer as 2026-01 has it, and the way back.
 -- Assumes nothing.
-use Rattle.std.specs.Prelude.{◌≡◌, refl, ℕ, Option, Some, None, Result}
+use Rattle.std.specs.Prelude.{◌≡◌, refl, [], ℕ, Option, Some, None, Result}
 use Rattle.ground.specs.Paper.{Paper}
-use Rattle.ground.specs.Refusals.{on_paper}
-use Rattle.format.specs.declared.TooLarge.{TooLarge}
-use Rattle.format.specs.Answers.{too_large}
+use Rattle.ground.specs.Refusals.{Refusals, on_paper}
+use Rattle.logarithm.specs.declared.TooLarge.{TooLarge}
 use Rattle.logarithm.specs.Meaning.{Giving, between, no_count}
+
+-- a count too large for a logarithm byte: 12
+abbrev pub too_large : Refusals TooLarge
+too_large = record { number = λ why. 12; carried = λ why. []; back = λ n carried. record {}; home = λ why. refl }
 
 -- the logarithm byte, or 12
 abbrev pub log8_code_paper : Result ℕ TooLarge → Paper ℕ

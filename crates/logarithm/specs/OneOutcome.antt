@@ -3,9 +3,8 @@
 use Rattle.std.specs.Prelude.{◌≡◌, refl, ℕ, Option, Result}
 use Rattle.ground.specs.Paper.{number_of, one_answer, one_value}
 use Rattle.ground.specs.Refusals.{one_result}
-use Rattle.format.specs.declared.TooLarge.{TooLarge}
-use Rattle.format.specs.Answers.{too_large}
-use Rattle.logarithm.specs.Answers.{log8_code_paper, log8_counts_paper, log8_counts_back, log8_counts_home}
+use Rattle.logarithm.specs.declared.TooLarge.{TooLarge}
+use Rattle.logarithm.specs.Answers.{log8_code_paper, log8_counts_paper, log8_counts_back, log8_counts_home, too_large}
 use Rattle.logarithm.specs.Logarithms.{log8_one, given_one}
 use Rattle.logarithm.specs.Promise.{Log8CodePromise, Log8CountsPromise}
 

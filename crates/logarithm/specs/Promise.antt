@@ -1,7 +1,7 @@
 -- What each call promises of its answer.
 -- Assumes nothing.
 use Rattle.std.specs.Prelude.{ℕ, Option, Result}
-use Rattle.format.specs.declared.TooLarge.{TooLarge}
+use Rattle.logarithm.specs.declared.TooLarge.{TooLarge}
 use Rattle.logarithm.specs.Answers.{log8_code_paper, log8_counts_paper}
 use Rattle.logarithm.specs.Meaning.{Log8Takes, Log8Given}
 

@@ -4,9 +4,8 @@ use Rattle.std.specs.Prelude.{◌≡◌, refl, ℕ, ◌≤◌, Option, Some, Non
 use Rattle.std.proofs.Common.{le_refl}
 use Rattle.ground.specs.Paper.{accepted}
 use Rattle.ground.specs.Refusals.{one_result}
-use Rattle.format.specs.declared.TooLarge.{TooLarge}
-use Rattle.format.specs.Answers.{too_large}
-use Rattle.logarithm.specs.Answers.{log8_code_paper, log8_counts_paper}
+use Rattle.logarithm.specs.declared.TooLarge.{TooLarge}
+use Rattle.logarithm.specs.Answers.{log8_code_paper, log8_counts_paper, too_large}
 use Rattle.logarithm.specs.Logarithms.{Encloses, bytes_follow_counts, log8_one, two_sides}
 use Rattle.logarithm.specs.Meaning.{Gives}
 use Rattle.logarithm.specs.Promise.{Log8CodePromise, Log8CountsPromise}

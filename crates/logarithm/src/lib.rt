@@ -2,11 +2,24 @@
 #![tactic(auto)]
 
 ghost use Rattle.std.specs.Prelude.{◌≡◌};
+ghost use Rattle.logarithm.specs.Answers.{too_large};
 ghost use Rattle.logarithm.specs.Promise.{Log8CodePromise, Log8CountsPromise};
 
-use format::TooLarge;
+use ground::Numbered;
 
 mod steps;
+
+// A count too large for a logarithm byte.
+#[derive(Clone, Copy, Debug, PartialEq, Eq)]
+pub struct TooLarge;
+
+impl Numbered for TooLarge {
+    ghost refusals = { too_large };
+
+    fn number(&self) -> u8 {
+        12
+    }
+}
 
 // The last count that a logarithm byte is given for.
 const LAST_LOG8: u64 = 2147483647;
