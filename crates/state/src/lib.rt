@@ -7,7 +7,7 @@ ghost use Rattle.std.specs.Prelude.{◌≡◌, ◌≤◌, eqb, get_or, length};
 ghost use Rattle.state.specs.Words.{Asked, asked_in, last_in, number_at, page_in, state_words, sum_at, window_in};
 ghost use Rattle.state.specs.Turns.{next_of, same_asked, same_of, turn_told};
 ghost use Rattle.state.specs.Meaning.{fitting_of, next_after_last, repeats_in, turn_by, turn_in};
-ghost use Rattle.state.specs.Answers.{next_paper, no_turn, wrong_memory};
+ghost use Rattle.state.specs.Answers.{next_paper, no_next, no_turn, wrong_memory};
 ghost use Rattle.state.specs.Promise.{NextPromise};
 
 use ground::Numbered;
@@ -84,6 +84,10 @@ pub enum NoTurn {
 #[derive(Clone, Copy, Debug, PartialEq, Eq)]
 pub struct WrongMemory;
 
+// A state that no next number follows: of too few words, or one that no call leaves.
+#[derive(Clone, Copy, Debug, PartialEq, Eq)]
+pub struct NoNext;
+
 impl Numbered for NoTurn {
     ghost refusals = { no_turn };
 
@@ -100,6 +104,14 @@ impl Numbered for WrongMemory {
 
     fn number(&self) -> u8 {
         13
+    }
+}
+
+impl Numbered for NoNext {
+    ghost refusals = { no_next };
+
+    fn number(&self) -> u8 {
+        WrongMemory.number()
     }
 }
 
@@ -141,10 +153,10 @@ pub fn turn_by(state: &[u64], number: u16, same: bool) -> Result<Turn, NoTurn>
 
 // The number that the next new ask bears.
 #[tactic(auto, unfolding(crate::specs::Meaning::next_means))]
-pub fn next(state: &[u64]) -> Result<u16, WrongMemory>
+pub fn next(state: &[u64]) -> Result<u16, NoNext>
     ensures { NextPromise state.now result }
 {
-    let lent = Lent::of(state).ok_or(WrongMemory)?;
+    let lent = Lent::of(state).ok_or(NoNext)?;
     if lent.words[KEPT] == 0 {
         return Ok(1);
     }
@@ -167,14 +179,14 @@ pub(crate) fn follows(number: u16, last: u64) -> bool
 {
     match following(last) {
         Ok(next) => number == next,
-        Err(WrongMemory) => false,
+        Err(NoNext) => false,
     }
 }
 
 // The number after the last accepted one: 0 after 65535; none after a number that no ask bears.
-fn following(last: u64) -> Result<u16, WrongMemory>
+fn following(last: u64) -> Result<u16, NoNext>
     ensures { next_paper result ≡ next_after_last last }
 {
-    let last = u16::try_from(last).map_err(|_| WrongMemory)?;
+    let last = u16::try_from(last).map_err(|_| NoNext)?;
     Ok(last.wrapping_add(1))
 }
