@@ -9,7 +9,7 @@ ghost use Rattle.packet.specs.Answers.{not_found, no_header, not_written};
 ghost use Rattle.packet.specs.Promise.{FindPromise, HeaderPromise, PayloadPromise, WritePromise};
 
 use ground::{Numbered, word_at};
-use parts::{data_length, put_header, stands_at};
+use parts::{copied, data_length, put_header, stands_at};
 
 // A packet that was found: its place, and the bytes skipped before it.
 #[derive(Clone, Copy, Debug, PartialEq, Eq)]
@@ -144,7 +144,7 @@ pub fn write(buffer: &mut [u8], apid: u16, payload: &[u8]) -> Result<usize, NotW
     }
     put_header(buffer, (n + 4) as u16, apid);
     let end = n + 8;
-    buffer[8..end].copy_from_slice(payload);
+    copied(&mut buffer[8..end], payload);
     crc::seal(buffer, end);
     Ok(n + 10)
 }

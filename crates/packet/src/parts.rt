@@ -54,3 +54,14 @@ pub(crate) fn put_header(buffer: &mut [u8], word: u16, apid: u16)
     put_word(buffer, 4, word);
     put_word(buffer, 6, apid);
 }
+
+// Copies data over a part that is as long.
+// Stays a loop: what may not change: `copy_from_slice` needs `memmove`, which the archive for C needs of nobody; and a small packet took a third longer.
+pub(crate) fn copied(part: &mut [u8], payload: &[u8])
+    requires { length part.old ≡ length payload.now }
+    ensures { part.new ≡ payload.now }
+{
+    for (i, byte) in payload.iter().enumerate() {
+        part[i] = *byte;
+    }
+}

@@ -95,7 +95,7 @@ pub(crate) fn keep_packet(state: &mut [u64], number: u16, inputs: Inputs, total:
     ensures { state.new ≡ keep_packet_in state.old number (inputs_of inputs.entry) total bytes.now }
 {
     keep_inputs(state, number, inputs, total);
-    state[ITEMS..ITEMS + inputs.items.len()].copy_from_slice(inputs.items);
+    keep_items(&mut state[ITEMS..ITEMS + inputs.items.len()], inputs.items);
     state[BYTE_COUNT] = bytes.len() as u64;
     keep_bytes(&mut state[BYTES..BYTES + bytes.len()], bytes);
 }
@@ -113,6 +113,17 @@ fn keep_inputs(state: &mut [u64], number: u16, inputs: Inputs, total: u64)
     state[INITIAL] = u64::from(inputs.initial);
     state[SECOND_OF_HOUR] = u64::from(inputs.second);
     state[ITEM_COUNT] = inputs.items.len() as u64;
+}
+
+// Keeps items, one a word.
+// Stays a loop, beside that of the bytes: what may not change: `copy_from_slice` needs `memmove`, which the archive for C needs of nobody.
+fn keep_items(words: &mut [u64], items: &[u64])
+    requires { length items.now ≡ length words.old }
+    ensures { words.new ≡ items.now }
+{
+    for (i, item) in items.iter().enumerate() {
+        words[i] = *item;
+    }
 }
 
 // Keeps bytes, one a word.

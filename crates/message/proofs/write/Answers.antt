@@ -29,5 +29,5 @@ pub returns : goal.returns
 returns c =
     done c.sayable_as.ensures c.if-not-sayable_as.false c.data_size-size.ensures.0 (put_there c.put_word.ensures (search rules))
     (put_there c.put_word-2.ensures (search rules)) (data_put c.put_word-2.new.buffer c.args.tag c.args.value c.data_size-size.ensures.0 c.to_be_bytes.ensures
-    c.copy_from_slice.ensures.after)
+    c.copied.ensures)
     (search rules) c.seal.ensures

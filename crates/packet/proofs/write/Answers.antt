@@ -12,4 +12,4 @@ returns-then-buffer-n c = too_short (search rules) (search rules)
 
 pub returns : goal.returns
 returns c =
-    done (search rules) (search rules) c.put_header.ensures c.copy_from_slice.ensures.after c.seal.ensures
+    done (search rules) (search rules) c.put_header.ensures c.copied.ensures c.seal.ensures

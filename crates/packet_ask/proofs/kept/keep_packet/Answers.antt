@@ -7,4 +7,4 @@ use Rattle.packet_ask.proofs.kept.keep_packet.Goals as goal
 pub returns : goal.returns
 returns c =
     let a = c.args in
-    kept_whole a.state.now a.number (inputs_of a.inputs) a.total a.bytes.now c.keep_inputs.ensures c.copy_from_slice.ensures.after c.keep_bytes.ensures
+    kept_whole a.state.now a.number (inputs_of a.inputs) a.total a.bytes.now c.keep_inputs.ensures c.keep_items.ensures c.keep_bytes.ensures
