@@ -1,11 +1,15 @@
 // Bits held in a number.
 ghost use Rattle.std.specs.Prelude.{◌≡◌, ℕ, ◌+◌, ◌%◌, ◌^◌, ◌<◌, ◌≤◌, List, ◌++◌, length, replicate};
+ghost use Rattle.std.proofs.Common.{ap₂};
 ghost use Rattle.ground.specs.Bits.{to_bits};
+ghost use Rattle.code.specs.Meaning.{from_bits};
+ghost use Rattle.code.specs.BitLists.{length-to_bits};
+ghost use Rattle.pack.specs.Held.{number_back};
 
 use std::marker::Model;
 
 // Bits held in a number, the first counting most: at most 40 of them.
-#[derive(Drop)]
+#[derive(Clone, Copy)]
 pub(crate) struct Held {
     pub(crate) number: u64,
     pub(crate) count: u32,
@@ -18,6 +22,11 @@ impl Model for Held {
     ghost view = { λ held. to_bits held.count held.number };
 
     ghost invariant = { λ held. (held.number < 2 ^ held.count) × (held.count ≤ 40) };
+
+    ghost inverse = { λ bits. record { number = from_bits bits; count = length bits } };
+
+    ghost inverse_ok = { λ held fits. ap₂ (λ (n c : ℕ). record { number = n; count = c })
+        (number_back held.count held.number fits.0) (length-to_bits held.count held.number) };
 }
 
 // Stays, for the count that its makers ask: the new form is no plainer: they make the value whose invariant it is.
