@@ -4,6 +4,8 @@
 
 -- the checksum, and bytes sealed by it
 pub use Rattle.crc.specs.OneOutcome.{checksum_one, sealed_one, seal_one}
+-- the number of a refusal, and of an answer: `number` of every error, and `number_of`
+pub use Rattle.ground.specs.Refusals.{refusal_one, answer_number_one, paper_number_one}
 -- 16-bit words
 pub use Rattle.ground.specs.OneOutcome.{lies_one, word_one, put_one}
 -- packets
@@ -33,7 +35,7 @@ pub use Rattle.pages.specs.OneOutcome.{sized_one, clear_one, count_one, check_on
 pub use Rattle.item.specs.OneOutcome.{window_of_one, plain_one, adds_one, sends_one, send_one}
 pub use Rattle.data_packet.specs.OneOutcome.{build_one}
 -- histogram memory
-pub use Rattle.state.specs.OneOutcome.{fitting_one, second_active_one, turn_one, turn_by_one, next_one, next_number_one}
+pub use Rattle.state.specs.OneOutcome.{fitting_one, second_active_one, lent_of_one, is_last_one, turn_one, turn_by_one, next_one, next_number_one}
 pub use Rattle.histogram.specs.OneOutcome.{admit_one, open_one, increment_one, increments_one, flip_one}
 pub use Rattle.histogram.specs.OneOutcome.{open_number_one, increment_number_one, increments_number_one, flip_number_one}
 pub use Rattle.window_ask.specs.OneOutcome.{ask_one, ask_number_one}

@@ -1,7 +1,7 @@
 -- How an error's refusals read in document 01, and a result with them.
 -- Assumes nothing.
 use Rattle.std.specs.Prelude.{◌≡◌, refl, List, ℕ, Result, Ok, Err}
-use Rattle.std.proofs.Common.{ap}
+use Rattle.std.proofs.Common.{ap, ◌∙◌}
 use Rattle.ground.specs.Outcome.{Outcome, outcome_of, outcome_one}
 use Rattle.ground.specs.Paper.{Paper, accepted, refusal, number_of, mapped, one_answer, one_value}
 
@@ -27,6 +27,10 @@ pub off_on_paper : {V E : Type 0} (rs : Refusals E) (r : Result V E) → off_pap
 off_on_paper rs (Ok x) = refl
 off_on_paper {V} {E} rs (Err e) = ap (λ (f : E). Err f) (rs.home e)
 
+-- one number for a refusal of any error
+pub refusal_one : {E : Type 0} (rs : Refusals E) (why : E) {m n : ℕ} → m ≡ rs.number why → n ≡ rs.number why → m ≡ n
+refusal_one rs why p q = one_value p q
+
 -- one number for an answer
 pub answer_number_one : {V E : Type 0} (rs : Refusals E) (answer : Result V E) {m n : ℕ} → m ≡ number_of (on_paper rs answer)
     → n ≡ number_of (on_paper rs answer) → m ≡ n
@@ -36,6 +40,11 @@ answer_number_one rs answer p q = one_value p q
 pub mapped_number : {A B : Type 0} (f : A → B) (p : Paper A) → number_of (mapped f p) ≡ number_of p
 mapped_number f (accepted x) = refl
 mapped_number f (refusal n carried) = refl
+
+-- so the number of an answer is that of its paper in document 01's words
+pub paper_number_one : {V A E : Type 0} (rs : Refusals E) (read : V → A) (answer : Result V E) {m n : ℕ} → m ≡ number_of (on_paper rs answer)
+    → n ≡ number_of (mapped read (on_paper rs answer)) → m ≡ n
+paper_number_one rs read answer p q = one_value p (q ∙ mapped_number read (on_paper rs answer))
 
 -- two results that read the same on paper are the same result
 pub one_result : {V E : Type 0} (rs : Refusals E) {x y : Result V E} {p : Paper V} → on_paper rs x ≡ p → on_paper rs y ≡ p → x ≡ y
