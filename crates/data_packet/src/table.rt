@@ -31,7 +31,7 @@ impl<'a> Inputs<'a> {
         true
     }
 
-    // The first byte of the data: the flags, the initial level, and the level that ends with the second.
+    // The first byte of the data: the flags, the initial level, and the level that ends with the second; each is out of range as a second is.
     pub(crate) fn first_byte(&self) -> Result<u8, OutOfRange>
         ensures { FirstPromise (inputs_of self.now) result }
     {

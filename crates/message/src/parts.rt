@@ -44,7 +44,7 @@ pub(crate) fn number_in(bytes: &[u8]) -> u64
 }
 
 // Copies bytes over a part that is as long.
-// Stays a loop: tried, and it misses a bar of speed: with `copy_from_slice` a message without data takes nearly twice as long to write.
+// Stays a loop: tried, and it misses a bar of speed: with `copy_from_slice` a message without data takes half as long again to write.
 pub(crate) fn copied(part: &mut [u8], bytes: &[u8])
     requires { length part.old ≡ length bytes.now }
     ensures { part.new ≡ bytes.now }

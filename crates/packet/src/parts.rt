@@ -56,7 +56,7 @@ pub(crate) fn put_header(buffer: &mut [u8], word: u16, apid: u16)
 }
 
 // Copies data over a part that is as long.
-// Stays a loop: what may not change: `copy_from_slice` needs `memmove`, which the archive for C needs of nobody; and a small packet took a third longer.
+// Stays a loop: what may not change: with `copy_from_slice` the archive for C needs `memmove` from outside, which it did not before.
 pub(crate) fn copied(part: &mut [u8], payload: &[u8])
     requires { length part.old ≡ length payload.now }
     ensures { part.new ≡ payload.now }

@@ -116,7 +116,7 @@ fn keep_inputs(state: &mut [u64], number: u16, inputs: Inputs, total: u64)
 }
 
 // Keeps items, one a word.
-// Stays a loop, beside that of the bytes: what may not change: `copy_from_slice` needs `memmove`, which the archive for C needs of nobody.
+// Stays a loop, beside that of the bytes: what may not change: with `copy_from_slice` the archive for C needs `memmove` from outside.
 fn keep_items(words: &mut [u64], items: &[u64])
     requires { length items.now ≡ length words.old }
     ensures { words.new ≡ items.now }

@@ -107,8 +107,7 @@ pub fn sized(words: usize) -> bool
 }
 
 // Sets every word to 0.
-// Stays a loop: what may not change: `every_other_word_left` is refused for its meaning only where a loop has its invariant; in place of `fill`
-// the right loop is refused too.
+// Stays a loop: what may not change: `every_other_word_left` is refused for its meaning only where a loop stands here with its invariant.
 pub fn clear(memory: &mut [u32])
     ensures { ClearPromise memory.old memory.new }
 {
