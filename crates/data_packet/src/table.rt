@@ -46,5 +46,5 @@ impl<'a> Inputs<'a> {
 fn allowed_item(follows: bool, item: u64) -> bool
     ensures { result ≡ allowed_item follows item }
 {
-    plain(item) && (!adds(item) || follows)
+    plain(item) && (follows || !adds(item))
 }

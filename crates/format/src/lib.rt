@@ -76,8 +76,13 @@ pub fn int24_code(count: u64) -> Result<u32, TooLarge>
     ensures { Int24CodePromise count result }
 {
     match u32::try_from(count) {
-        Ok(integer) if integer <= LAST24 => Ok(integer),
-        _ => Err(TooLarge),
+        Ok(integer) => {
+            if LAST24 < integer {
+                return Err(TooLarge);
+            }
+            Ok(integer)
+        }
+        Err(_) => Err(TooLarge),
     }
 }
 
