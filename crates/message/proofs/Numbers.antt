@@ -2,17 +2,14 @@
 -- Assumes nothing.
 use mathlib.Core.Path.{◌≡◌, refl, sym, ap, ap₂, ◌∙◌}
 use mathlib.Core.List.{List, ◌++◌}
-use Prim.Native.Nat.{ℕ, zero, suc, ◌+◌, ◌-◌, ◌*◌, ◌^◌, ◌<◌, ◌≤◌}
-use native.Mathlib.Nat.{add_comm, pow-suc, pow-le-pow_right, zero-lt-suc, le_antisymm}
+use Prim.Native.Nat.{ℕ, suc, ◌+◌, ◌-◌, ◌*◌, ◌/◌, ◌%◌, ◌^◌, ◌<◌, ◌≤◌}
+use native.Mathlib.Nat.{pow-suc, pow-le-pow_right, zero-lt-suc, le_antisymm, div-div-eq-div-mul, add-zero, div-one}
 use native.Mathlib.Numerals.{add-one}
 use native.Mathlib.Omega.{arith}
-use borrow.Rule.Slice.PartMut.{put_mid, Post-is}
-use lib.ListN.{length, take, drop, get_or}
+use lib.ListN.{length, take, drop, get_or, set, length-set, take-append-drop}
 use lib.Seq.{take-suc, take-length}
-use Rattle.std.specs.Int.{bytes_high_first}
-use Rattle.ground.specs.Words.{number, bytes_of, high_first, length-bytes_of, number_snoc}
-use Rattle.ground.specs.Putting.{put}
-use Rattle.message.specs.Meaning.{data_size}
+use Rattle.ground.specs.Words.{number, bytes_of, number_snoc}
+use Rattle.ground.specs.Putting.{put, put_front}
 
 -- the first i bytes are in the value
 pub record Summed (bytes : List ℕ) (value i : ℕ) : Type 0 where
@@ -41,24 +38,57 @@ summed_more {bytes} {value} {i} s h small =
 pub room : {i value : ℕ} → value < 256 ^ i → i < 8 → value < 2 ^ 56
 room {i} {value} s h = let within : i ≤ 7 = omega arith in omega (arith, pow-le-pow_right (zero-lt-suc 255) within)
 
--- the last of eight bytes, as many as a tag stands for
-last_bytes : (tag n : ℕ) → take (8 - (8 - data_size tag)) (drop (8 - data_size tag) (bytes_of 8 n)) ≡ bytes_of (data_size tag) n
-last_bytes zero n = refl
-last_bytes (suc zero) n = refl
-last_bytes (suc (suc zero)) n = refl
-last_bytes (suc (suc (suc t))) n = refl
+-- the last bytes of the value are put, and so much of it is left
+pub record Putting (buffer₀ : List ℕ) (at count value : ℕ) (buffer : List ℕ) (left rest : ℕ) : Type 0 where
+  pub within : left ≤ count
+  pub so_far : buffer ≡ put buffer₀ (at + left) (bytes_of (count - left) value)
+  pub still : rest ≡ value / 256 ^ (count - left)
+  pub long : length buffer ≡ length buffer₀
 
--- they lie behind mark and word
-pub data_put : (buffer : List ℕ) {part eight : List ℕ} {size : ℕ} (tag value : ℕ) → size ≡ data_size tag → eight ≡ bytes_high_first 8 value
-    → part ≡ take (8 - (8 - size)) (drop (8 - size) eight)
-    → put_mid 4 (size + 4 - 4) buffer part ≡ put buffer 4 (bytes_of size value)
-data_put buffer {part} {eight} {size} tag value is e p =
-    let bytes : part ≡ bytes_of size value =
-    p ∙ ap₂ (λ (k : ℕ) (l : List ℕ). take (8 - (8 - k)) (drop (8 - k) l)) is (e ∙ high_first 8 value) ∙ last_bytes tag value
-    ∙ ap (λ (k : ℕ). bytes_of k value) (sym is) in
-    let behind : size + 4 ≡ 4 + length (bytes_of size value) = add_comm size 4 ∙ ap (λ (k : ℕ). 4 + k) (sym (length-bytes_of size value)) in
-    ap₂ (λ (x y : List ℕ). take 4 buffer ++ (x ++ y)) bytes
-    (Post-is 4 (size + 4) buffer (omega arith) ∙ ap (λ (k : ℕ). drop k buffer) behind)
+-- before the last byte
+pub putting_none : (buffer : List ℕ) (at count value : ℕ) → Putting buffer at count value buffer count value
+putting_none buffer at count value =
+    let none : count - count ≡ 0 = omega arith in
+    record {
+      within = omega arith;
+      so_far =
+          sym (take-append-drop (at + count) buffer)
+          ∙ ap (λ (k : ℕ). take (at + count) buffer ++ drop k buffer) (sym (add-zero (at + count)))
+          ∙ ap (λ (k : ℕ). put buffer (at + count) (bytes_of k value)) (sym none);
+      still = sym (div-one value) ∙ ap (λ (k : ℕ). value / 256 ^ k) (sym none);
+      long = refl;
+    }
+
+-- one byte more put
+pub putting_more : {buffer₀ : List ℕ} {at count value : ℕ} {buffer : List ℕ} {left rest : ℕ} → at + count ≤ length buffer₀
+    → Putting buffer₀ at count value buffer left rest → 0 < left
+    → Putting buffer₀ at count value (set buffer (at + (left - 1)) (rest % 256)) (left - 1) (rest / 256)
+putting_more {buffer₀} {at} {count} {value} {buffer} {left} {rest} n p h =
+    let k = count - left in
+    let before : at + left ≡ at + (left - 1) + 1 = omega arith in
+    let longer : count - (left - 1) ≡ suc k = omega arith in
+    let power : 256 ^ suc k ≡ 256 ^ k * 256 = pow-suc 256 k in
+    record {
+      within = omega arith;
+      so_far =
+          ap₂ (λ (x : List ℕ) (y : ℕ). set x (at + (left - 1)) (y % 256))
+          (p.so_far ∙ ap (λ (m : ℕ). put buffer₀ m (bytes_of k value)) before)
+          p.still
+          ∙ put_front buffer₀ (at + (left - 1)) (bytes_of k value) (value / 256 ^ k % 256) (omega arith)
+          ∙ ap (λ (m : ℕ). put buffer₀ (at + (left - 1)) (bytes_of m value)) (sym longer);
+      still =
+          ap (λ (x : ℕ). x / 256) p.still ∙ div-div-eq-div-mul value (256 ^ k) 256
+          ∙ ap (λ (x : ℕ). value / x) (sym power) ∙ ap (λ (m : ℕ). value / 256 ^ m) (sym longer);
+      long = length-set buffer (at + (left - 1)) (rest % 256) ∙ p.long;
+    }
+
+-- all bytes are put
+pub putting_all : {buffer₀ : List ℕ} {at count value : ℕ} {buffer : List ℕ} {left rest : ℕ} → Putting buffer₀ at count value buffer left rest
+    → left ≤ 0 → buffer ≡ put buffer₀ at (bytes_of count value)
+putting_all {buffer₀} {at} {count} {value} {buffer} {left} p h =
+    let none : at + left ≡ at = omega arith in
+    let all : count - left ≡ count = omega arith in
+    p.so_far ∙ ap₂ (λ (m k : ℕ). put buffer₀ m (bytes_of k value)) none all
 
 -- all bytes are in the value
 pub summed_all : {bytes : List ℕ} {value i : ℕ} → Summed bytes value i → i ≤ length bytes → length bytes ≤ i → value ≡ number bytes

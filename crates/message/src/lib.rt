@@ -7,7 +7,7 @@ ghost use Rattle.message.specs.Answers.{not_read, not_written};
 ghost use Rattle.message.specs.Promise.{ReadPromise, WritePromise};
 
 use ground::{Numbered, put_word, word_at};
-use parts::{copied, data_size, number_in, sayable_as};
+use parts::{data_size, number_in, put_number, sayable_as};
 
 // A message that was read: its address, its size tag, its value and the bytes that it used.
 #[derive(Clone, Copy, Debug, PartialEq, Eq)]
@@ -100,7 +100,7 @@ pub fn write(buffer: &mut [u8], address: u16, tag: u8, value: u64) -> Result<usi
     }
     put_word(buffer, 0, 0x3C3D);
     put_word(buffer, 2, (tag as u16) * 16384 + address);
-    copied(&mut buffer[4..size + 4], &value.to_be_bytes()[8 - size..]);
+    put_number(buffer, 4, size, value);
     crc::seal(buffer, size + 4);
     Ok(size + 6)
 }

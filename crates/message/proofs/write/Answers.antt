@@ -6,7 +6,6 @@ use native.Mathlib.Omega.{arith}
 use borrow.Author.Rules.{rules}
 use Rattle.ground.specs.Laws.{put_there}
 use Rattle.message.specs.Laws.{within}
-use Rattle.message.proofs.Numbers.{data_put}
 use Rattle.message.proofs.Writing.{unsayable, too_short, done}
 use Rattle.message.proofs.write.Goals as goal
 
@@ -28,6 +27,4 @@ overflow_add-tag c =
 pub returns : goal.returns
 returns c =
     done c.sayable_as.ensures c.if-not-sayable_as.false c.data_size-size.ensures.0 (put_there c.put_word.ensures (search rules))
-    (put_there c.put_word-2.ensures (search rules)) (data_put c.put_word-2.new.buffer c.args.tag c.args.value c.data_size-size.ensures.0 c.to_be_bytes.ensures
-    c.copied.ensures)
-    (search rules) c.seal.ensures
+    (put_there c.put_word-2.ensures (search rules)) c.put_number.ensures (search rules) c.seal.ensures
